@@ -1,0 +1,144 @@
+// Why the console refuses a file: the fault of whichever layer found one, handed up whole.
+use builder::fault::BuildFault;
+use check::fault::CheckFault;
+use rack::fault::FileFault;
+use rack::fault::RackFault;
+use routing::fault::DistanceFault;
+use routing::fault::WalkFault;
+use routing::pair::Pair;
+use std::alloc::AllocError;
+
+#[derive(Clone, Copy)]
+pub enum Refusal {
+    File(FileFault),
+    Rack(RackFault),
+    Distance(DistanceFault),
+    Build(BuildFault),
+    Check(CheckFault),
+    // there is no memory for the answer
+    Memory,
+}
+
+pub impl From<FileFault> for Refusal as RefusalOfFile {
+    fn from(fault: FileFault) -> Refusal {
+        Refusal::File(fault)
+    }
+}
+
+pub impl From<RackFault> for Refusal as RefusalOfRack {
+    fn from(fault: RackFault) -> Refusal {
+        Refusal::Rack(fault)
+    }
+}
+
+pub impl From<DistanceFault> for Refusal as RefusalOfDistance {
+    fn from(fault: DistanceFault) -> Refusal {
+        Refusal::Distance(fault)
+    }
+}
+
+pub impl From<BuildFault> for Refusal as RefusalOfBuild {
+    fn from(fault: BuildFault) -> Refusal {
+        Refusal::Build(fault)
+    }
+}
+
+pub impl From<CheckFault> for Refusal as RefusalOfCheck {
+    fn from(fault: CheckFault) -> Refusal {
+        Refusal::Check(fault)
+    }
+}
+
+pub impl From<AllocError> for Refusal as RefusalOfAlloc {
+    fn from(error: AllocError) -> Refusal {
+        let AllocError = error;
+        Refusal::Memory
+    }
+}
+
+// What the line of a refusal tells: the number, then sender (for a fault of the file its record), receiver and hop, 0 where there is none.
+#[derive(Clone, Copy, PartialEq, Eq, Debug)]
+pub struct Told {
+    pub number: u8,
+    pub sender: usize,
+    pub receiver: u16,
+    pub hop: u16,
+}
+
+fn plain(number: u8) -> Told {
+    Told {
+        number,
+        sender: 0,
+        receiver: 0,
+        hop: 0,
+    }
+}
+
+fn at_record(number: u8, record: usize) -> Told {
+    Told {
+        number,
+        sender: record,
+        receiver: 0,
+        hop: 0,
+    }
+}
+
+fn at_hop(number: u8, pair: Pair, hop: u16) -> Told {
+    Told {
+        number,
+        sender: usize::from(pair.sender.0),
+        receiver: pair.receiver.0,
+        hop,
+    }
+}
+
+fn of_file(fault: FileFault) -> Told {
+    at_record(fault.number(), fault.record())
+}
+
+fn of_walk(fault: WalkFault) -> Option<Told> {
+    match fault {
+        WalkFault::NoPair { pair } => Some(at_hop(30, pair, 0)),
+        WalkFault::Endless { pair, hop } => Some(at_hop(23, pair, hop)),
+        WalkFault::NoChannel { pair, hop } => Some(at_hop(20, pair, hop)),
+        WalkFault::Elsewhere { pair, hop } => Some(at_hop(21, pair, hop)),
+        WalkFault::Lane { pair, hop } => Some(at_hop(24, pair, hop)),
+        WalkFault::OtherHost { pair, hop } => Some(at_hop(22, pair, hop)),
+        WalkFault::Memory => None,
+    }
+}
+
+fn of_build(fault: BuildFault) -> Option<Told> {
+    match fault {
+        BuildFault::Lanes => Some(plain(10)),
+        BuildFault::Tables => Some(plain(9)),
+        BuildFault::Walk(fault) => of_walk(fault),
+        BuildFault::Lane { pair } => Some(at_hop(11, pair, 0)),
+        BuildFault::Level { pair } => Some(at_hop(12, pair, 0)),
+        BuildFault::Memory => None,
+    }
+}
+
+fn of_check(fault: CheckFault) -> Option<Told> {
+    match fault {
+        CheckFault::Lanes => Some(plain(10)),
+        CheckFault::Tables => Some(plain(9)),
+        CheckFault::Level { pair } => Some(at_hop(26, pair, 0)),
+        CheckFault::Walk(fault) => of_walk(fault),
+        CheckFault::Ring { length: _ } => Some(plain(25)),
+        CheckFault::Memory => None,
+    }
+}
+
+// What is told of a refusal; none where memory was wanting, which is no refusal.
+pub fn tell(refusal: Refusal) -> Option<Told> {
+    match refusal {
+        Refusal::File(fault) => Some(of_file(fault)),
+        Refusal::Rack(RackFault::Tables) => Some(plain(13)),
+        Refusal::Rack(RackFault::Memory) => None,
+        Refusal::Distance(DistanceFault::Tables) => Some(plain(9)),
+        Refusal::Build(fault) => of_build(fault),
+        Refusal::Check(fault) => of_check(fault),
+        Refusal::Memory => None,
+    }
+}

@@ -1,0 +1,5 @@
+pub mod Sources
+pub mod Turns
+pub mod Ways
+pub mod Paths
+pub mod Walks
