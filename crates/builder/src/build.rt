@@ -1,4 +1,17 @@
 // Builds the lane table and the path table of a rack.
+ghost use mathlib.Core.Path.{_≡_};
+ghost use mathlib.Core.List.{_++_};
+ghost use Prim.Native.Nat.{_*_, _≤_};
+ghost use lib.ListN.{length, drop, replicate};
+ghost use Rattle.std.specs.Results.{Cases};
+ghost use Rattle.std.specs.Of.Vec.{vec-items, vec-cap};
+ghost use Rattle.std.specs.Vec.{made};
+ghost use Rattle.rack.specs.Racks.{node-count, channel-count, Host};
+ghost use Rattle.routing.specs.Paths.{Pair-of};
+ghost use Rattle.routing.specs.Turns.{lane-bytes};
+ghost use Rattle.builder.specs.Method.{channels-of, Path-of, tables, Pair-built, Receivers, Senders, blank};
+ghost use Rattle.builder.specs.Laws.{Rises, Ends-keep-0};
+ghost use Rattle.builder.specs.Outcomes.{In-range, Long-enough, No-path, Lacks, Receiver-lacks, First-lacks, Outcome};
 use crate::fault::BuildFault;
 use crate::fault::BuildOfAlloc;
 use crate::fault::BuildOfWalk;
@@ -24,7 +37,11 @@ fn path_of<'x, S: ForwardingSource>(
     source: &'x S,
     pair: Pair,
     path: &mut Vec<Step>,
-) -> Result<(), BuildFault> {
+) -> Result<(), BuildFault>
+    requires room { ⌜ channel-count (now rack) ≤ vec-cap (now path) ⌝ }
+    ensures answer { λ r. ⌜ Cases r (λ _. Path-of (now (rack .entry)) (S·ForwardingSource .route (now (source .entry))) (pair .sender .0) (pair .receiver .0) (channels-of (vec-items (now (path .exit))))) (No-path (now (rack .entry)) (S·ForwardingSource .route (now (source .entry))) pair) ⌝ }
+    ensures room { λ _. ⌜ channel-count (now (rack .entry)) ≤ vec-cap (now (path .exit)) ⌝ }
+{
     let map = OneLane;
     let none = [0u8; 0];
     let plan = Plan {
@@ -50,7 +67,14 @@ fn build_pair<S: ForwardingSource>(
     path: &mut Vec<Step>,
     lanes: &mut [u8],
     levels: &mut [u8],
-) -> Result<(), BuildFault> {
+) -> Result<(), BuildFault>
+    requires hosts { ⌜ Pair-of (now rack) (pair .sender .0) (pair .receiver .0) ⌝ }
+    requires range { ⌜ In-range «lane_count» ⌝ }
+    requires long { ⌜ Long-enough (now rack) (tables (now lanes) (now levels)) ⌝ }
+    requires room { ⌜ channel-count (now rack) ≤ vec-cap (now path) ⌝ }
+    ensures answer { λ r. ⌜ Cases r (λ _. Pair-built (now (rack .entry)) (S·ForwardingSource .route (now (source .entry))) «lane_count» (pair .sender .0) (pair .receiver .0) (tables (now (lanes .entry)) (now (levels .entry))) (tables (now (lanes .exit)) (now (levels .exit)))) (Lacks (now (rack .entry)) (S·ForwardingSource .route (now (source .entry))) «lane_count» pair (tables (now (lanes .entry)) (now (levels .entry)))) ⌝ }
+    ensures room { λ _. ⌜ channel-count (now (rack .entry)) ≤ vec-cap (now (path .exit)) ⌝ }
+{
     path_of(rack, source, pair, path)?;
     if path.len() > usize::from(lane_count) + 2 {
         return Err(BuildFault::Lane { pair });
@@ -59,10 +83,7 @@ fn build_pair<S: ForwardingSource>(
         return Err(BuildFault::Level { pair });
     };
     claim_all(rack, lanes, path, level);
-    let place = rack.node_count() * usize::from(pair.sender.0) + usize::from(pair.receiver.0);
-    if place < levels.len() {
-        levels[place] = level.number();
-    }
+    levels[pair.place(rack)] = level.number();
     Ok(())
 }
 
@@ -75,7 +96,14 @@ fn build_sender<S: ForwardingSource>(
     path: &mut Vec<Step>,
     lanes: &mut [u8],
     levels: &mut [u8],
-) -> Result<(), BuildFault> {
+) -> Result<(), BuildFault>
+    requires host { ⌜ Host (now rack) (sender .0) ⌝ }
+    requires range { ⌜ In-range «lane_count» ⌝ }
+    requires long { ⌜ Long-enough (now rack) (tables (now lanes) (now levels)) ⌝ }
+    requires room { ⌜ channel-count (now rack) ≤ vec-cap (now path) ⌝ }
+    ensures answer { λ r. ⌜ Cases r (λ _. Receivers (now (rack .entry)) (S·ForwardingSource .route (now (source .entry))) «lane_count» (sender .0) (node-count (now (rack .entry))) (tables (now (lanes .entry)) (now (levels .entry))) (tables (now (lanes .exit)) (now (levels .exit)))) (Receiver-lacks (now (rack .entry)) (S·ForwardingSource .route (now (source .entry))) «lane_count» (sender .0) (tables (now (lanes .entry)) (now (levels .entry)))) ⌝ }
+    ensures room { λ _. ⌜ channel-count (now (rack .entry)) ≤ vec-cap (now (path .exit)) ⌝ }
+{
     for v in 0..rack.node_count() as u16 {
         let receiver = Node(v);
         if v != sender.0 && rack.is_host(receiver) {
@@ -93,7 +121,7 @@ fn build_sender<S: ForwardingSource>(
     Ok(())
 }
 
-// All pairs, by ascending sender and then receiver.
+// All pairs, by ascending sender and then receiver, from tables that are all 0.
 fn build_all<S: ForwardingSource>(
     rack: &Rack,
     source: &S,
@@ -101,7 +129,12 @@ fn build_all<S: ForwardingSource>(
     path: &mut Vec<Step>,
     lanes: &mut [u8],
     levels: &mut [u8],
-) -> Result<(), BuildFault> {
+) -> Result<(), BuildFault>
+    requires range { ⌜ In-range «lane_count» ⌝ }
+    requires zeros { ⌜ tables (now lanes) (now levels) ≡ blank (now rack) ⌝ }
+    requires room { ⌜ channel-count (now rack) ≤ vec-cap (now path) ⌝ }
+    ensures { λ r. ⌜ Cases r (λ _. Senders (now (rack .entry)) (S·ForwardingSource .route (now (source .entry))) «lane_count» (node-count (now (rack .entry))) (blank (now (rack .entry))) (tables (now (lanes .exit)) (now (levels .exit)))) (First-lacks (now (rack .entry)) (S·ForwardingSource .route (now (source .entry))) «lane_count») ⌝ }
+{
     for u in 0..rack.node_count() as u16 {
         let sender = Node(u);
         if rack.is_host(sender) {
@@ -109,6 +142,14 @@ fn build_all<S: ForwardingSource>(
         }
     }
     Ok(())
+}
+
+// Sets the first places of a table to 0.
+fn wipe(table: &mut [u8], count: usize)
+    requires { ⌜ count ≤ length (now table) ⌝ }
+    ensures { λ _. ⌜ now (table .exit) ≡ replicate count 0 ++ drop count (now (table .entry)) ⌝ }
+{
+    table[0..count].fill(0);
 }
 
 // Fills the lane table and the path table; where a path, a lane or a level is lacking, the needed places of both are 0 and the first pair that lacks it is told.
@@ -119,7 +160,11 @@ pub fn build<S: ForwardingSource>(
     lane_count: u8,
     lanes: &mut [u8],
     levels: &mut [u8],
-) -> Result<(), BuildFault> {
+) -> Result<(), BuildFault>
+    ensures answer { λ r. ⌜ Outcome (now (rack .entry)) (S·ForwardingSource .route (now (source .entry))) «lane_count» (tables (now (lanes .entry)) (now (levels .entry))) (tables (now (lanes .exit)) (now (levels .exit))) r ⌝ }
+    ensures plan { λ r. ⌜ made r (λ _. Rises (now (rack .entry)) (S·ForwardingSource .route (now (source .entry))) «lane_count» (tables (now (lanes .exit)) (now (levels .exit))) × Ends-keep-0 (now (rack .entry)) (now (lanes .exit))) ⌝ }
+    ensures beyond { λ _. ⌜ (drop (lane-bytes (channel-count (now (rack .entry)))) (now (lanes .exit)) ≡ drop (lane-bytes (channel-count (now (rack .entry)))) (now (lanes .entry))) × (drop (node-count (now (rack .entry)) * node-count (now (rack .entry))) (now (levels .exit)) ≡ drop (node-count (now (rack .entry)) * node-count (now (rack .entry))) (now (levels .entry))) ⌝ }
+{
     if lane_count < 1 || lane_count > 8 {
         return Err(BuildFault::Lanes);
     }
@@ -129,8 +174,8 @@ pub fn build<S: ForwardingSource>(
         return Err(BuildFault::Tables);
     }
     let mut path = Vec::with_capacity(heap, rack.channel_count())?;
-    lanes[0..rows].fill(0);
-    levels[0..pairs].fill(0);
+    wipe(lanes, rows);
+    wipe(levels, pairs);
     match build_all(
         rack,
         source,
@@ -141,8 +186,8 @@ pub fn build<S: ForwardingSource>(
     ) {
         Ok(()) => Ok(()),
         Err(fault) => {
-            lanes[0..rows].fill(0);
-            levels[0..pairs].fill(0);
+            wipe(lanes, rows);
+            wipe(levels, pairs);
             Err(fault)
         }
     }

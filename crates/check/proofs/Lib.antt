@@ -1,1 +1,8 @@
 mod Scans
+mod Bits
+mod Adding
+mod Marking
+mod Pairing
+mod Exactness
+mod Rising
+mod Final

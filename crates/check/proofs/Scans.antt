@@ -92,7 +92,7 @@ module _ (P : ℕ → Type 0) (Out : ℕ → Type 0) (from : ℕ) (sound : (y : 
   go-end n before after y l p =
       ⊎-elim (λ (a : y < n). before y l a p) (λ (a : n ≤ y). after y a (sound y p)) (cases-lt y n)
 
-bit-zero : (k : ℕ) → bit 0 k ≡ false
+pub bit-zero : (k : ℕ) → bit 0 k ≡ false
 bit-zero k = ap (λ n. eqb (n % 2) 1) (zero-div (2 ^ k))
 
 module _ (r : Rack) (table : List ℕ) where
@@ -108,7 +108,7 @@ module _ (r : Rack) (table : List ℕ) where
   turns-entering c d t =
       (entered r c (turns-enters r c d t) .0, sym (eqb-true (tail r d) (head r c) (both-snd _ _ (both-snd (enters-switch r c) _ t))))
 
-  followed-turns : (x y : ℕ) → Followed-by r table x y → turns r (x / 8) (y / 8) ≡ true
+  pub followed-turns : (x y : ℕ) → Followed-by r table x y → turns r (x / 8) (y / 8) ≡ true
   followed-turns x y f =
       word-turns (x / 8) (y / 8) (λ e. both-ways (bit (word-of r table (x / 8) (y / 8)) (8 * (x % 8) + y % 8)) (ap (λ n. bit n (8 * (x % 8) + y % 8)) e ∙ bit-zero (8 * (x % 8) + y % 8)) (f .2))
 

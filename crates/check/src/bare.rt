@@ -7,6 +7,7 @@ ghost use Rattle.std.specs.Orderings.{Decides};
 ghost use Rattle.rack.specs.Racks.{channel-count, tail-port};
 ghost use Rattle.routing.specs.Turns.{turn-place};
 ghost use Rattle.check.specs.Words.{Channel-followed-by};
+ghost use Rattle.check.specs.Answers.{Bare-checked};
 use crate::fault::CheckFault;
 use crate::graph::word_at;
 use rack::numbers::Channel;
@@ -80,7 +81,9 @@ pub fn check_channels<'x>(
     dependencies: &'x [u64],
     ranks: &mut [u16],
     ring: &mut [u16],
-) -> Result<u16, CheckFault> {
+) -> Result<u16, CheckFault>
+    ensures { λ r. ⌜ Bare-checked (now (rack .entry)) (now (dependencies .entry)) (now (ranks .entry)) (now (ranks .exit)) (now (ring .entry)) (now (ring .exit)) r ⌝ }
+{
     let channels = rack.channel_count();
     if dependencies.len() < PORTS * channels {
         return Err(CheckFault::Tables);

@@ -1,5 +1,6 @@
 // Why a plan is refused.
 ghost use mathlib.Core.Path.{_≡_};
+ghost use Rattle.check.specs.Faults.{check-refusal};
 ghost use Rattle.check.specs.declared.fault.CheckFault.the-variants.{Walk, Memory};
 use routing::fault::WalkFault;
 use routing::fault::WalkFaultDebug;
@@ -41,5 +42,41 @@ pub impl From<AllocError> for CheckFault as CheckOfAlloc {
     fn from(error: AllocError) -> CheckFault {
         let AllocError = error;
         CheckFault::Memory
+    }
+}
+
+impl CheckFault {
+    // The number of the refusal; the fault of a walk has its own, and want of memory has none.
+    pub fn number(self) -> Option<u8>
+        ensures { λ r. ⌜ r ≡ check-refusal self .number ⌝ }
+    {
+        match self {
+            CheckFault::Lanes => Some(10),
+            CheckFault::Tables => Some(9),
+            CheckFault::Level { pair: _ } => Some(26),
+            CheckFault::Walk(_) => None,
+            CheckFault::Ring { length: _ } => Some(25),
+            CheckFault::Memory => None,
+        }
+    }
+
+    // The pair whose level is above 15.
+    pub fn about(self) -> Option<Pair>
+        ensures { λ r. ⌜ r ≡ check-refusal self .about ⌝ }
+    {
+        match self {
+            CheckFault::Level { pair } => Some(pair),
+            _ => None,
+        }
+    }
+
+    // The fault of a walk, as it was handed up.
+    pub fn walk(self) -> Option<WalkFault>
+        ensures { λ r. ⌜ r ≡ check-refusal self .walk ⌝ }
+    {
+        match self {
+            CheckFault::Walk(fault) => Some(fault),
+            _ => None,
+        }
     }
 }

@@ -97,36 +97,19 @@ fn of_file(fault: FileFault) -> Told {
 }
 
 fn of_walk(fault: WalkFault) -> Option<Told> {
-    match fault {
-        WalkFault::NoPair { pair } => Some(at_hop(30, pair, 0)),
-        WalkFault::Endless { pair, hop } => Some(at_hop(23, pair, hop)),
-        WalkFault::NoChannel { pair, hop } => Some(at_hop(20, pair, hop)),
-        WalkFault::Elsewhere { pair, hop } => Some(at_hop(21, pair, hop)),
-        WalkFault::Lane { pair, hop } => Some(at_hop(24, pair, hop)),
-        WalkFault::OtherHost { pair, hop } => Some(at_hop(22, pair, hop)),
-        WalkFault::Memory => None,
+    match (fault.number(), fault.pair()) {
+        (Some(number), Some(pair)) => Some(at_hop(number, pair, fault.hop())),
+        _ => None,
     }
 }
 
-fn of_build(fault: BuildFault) -> Option<Told> {
-    match fault {
-        BuildFault::Lanes => Some(plain(10)),
-        BuildFault::Tables => Some(plain(9)),
-        BuildFault::Walk(fault) => of_walk(fault),
-        BuildFault::Lane { pair } => Some(at_hop(11, pair, 0)),
-        BuildFault::Level { pair } => Some(at_hop(12, pair, 0)),
-        BuildFault::Memory => None,
-    }
-}
-
-fn of_check(fault: CheckFault) -> Option<Told> {
-    match fault {
-        CheckFault::Lanes => Some(plain(10)),
-        CheckFault::Tables => Some(plain(9)),
-        CheckFault::Level { pair } => Some(at_hop(26, pair, 0)),
-        CheckFault::Walk(fault) => of_walk(fault),
-        CheckFault::Ring { length: _ } => Some(plain(25)),
-        CheckFault::Memory => None,
+// What is told by a number, and by a pair if there is one; else by the fault of a walk, if it is one.
+fn of_parts(number: Option<u8>, about: Option<Pair>, fault: Option<WalkFault>) -> Option<Told> {
+    match (number, about, fault) {
+        (Some(number), Some(pair), _) => Some(at_hop(number, pair, 0)),
+        (Some(number), None, _) => Some(plain(number)),
+        (None, _, Some(fault)) => of_walk(fault),
+        (None, _, None) => None,
     }
 }
 
@@ -134,11 +117,10 @@ fn of_check(fault: CheckFault) -> Option<Told> {
 pub fn tell(refusal: Refusal) -> Option<Told> {
     match refusal {
         Refusal::File(fault) => Some(of_file(fault)),
-        Refusal::Rack(RackFault::Tables) => Some(plain(13)),
-        Refusal::Rack(RackFault::Memory) => None,
-        Refusal::Distance(DistanceFault::Tables) => Some(plain(9)),
-        Refusal::Build(fault) => of_build(fault),
-        Refusal::Check(fault) => of_check(fault),
+        Refusal::Rack(fault) => of_parts(fault.number(), None, None),
+        Refusal::Distance(fault) => Some(plain(fault.number())),
+        Refusal::Build(fault) => of_parts(fault.number(), fault.about(), fault.walk()),
+        Refusal::Check(fault) => of_parts(fault.number(), fault.about(), fault.walk()),
         Refusal::Memory => None,
     }
 }

@@ -8,3 +8,6 @@ mod Columns
 mod Reaching
 mod Nearness
 mod Filled
+pub mod Repeats
+pub mod Rounds
+pub mod Determined

@@ -2,6 +2,7 @@
 pub mod distances;
 pub mod downhill;
 pub mod fault;
+pub mod laws;
 pub mod map;
 pub mod one_lane;
 pub mod pair;

@@ -1,0 +1,9 @@
+pub mod Rows
+pub mod Fitting
+pub mod Pathed
+pub mod Taking
+pub mod Wiping
+pub mod Rising
+pub mod Stopping
+pub mod Single
+pub mod Ends

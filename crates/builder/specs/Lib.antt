@@ -1,0 +1,4 @@
+pub mod Method
+pub mod Outcomes
+pub mod Faults
+pub mod Laws
