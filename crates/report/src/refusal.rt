@@ -1,6 +1,7 @@
 // Why the console refuses a file: the fault of whichever layer found one, handed up whole.
 use builder::fault::BuildFault;
 use check::fault::CheckFault;
+use planning::fault::PlanFault;
 use rack::fault::FileFault;
 use rack::fault::RackFault;
 use routing::fault::DistanceFault;
@@ -37,15 +38,12 @@ pub impl From<DistanceFault> for Refusal as RefusalOfDistance {
     }
 }
 
-pub impl From<BuildFault> for Refusal as RefusalOfBuild {
-    fn from(fault: BuildFault) -> Refusal {
-        Refusal::Build(fault)
-    }
-}
-
-pub impl From<CheckFault> for Refusal as RefusalOfCheck {
-    fn from(fault: CheckFault) -> Refusal {
-        Refusal::Check(fault)
+pub impl From<PlanFault> for Refusal as RefusalOfPlan {
+    fn from(fault: PlanFault) -> Refusal {
+        match fault {
+            PlanFault::Build(fault) => Refusal::Build(fault),
+            PlanFault::Check(fault) => Refusal::Check(fault),
+        }
     }
 }
 

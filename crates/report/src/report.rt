@@ -4,15 +4,13 @@ use crate::lines::pair_line;
 use crate::lines::refused_line;
 use crate::refusal::Refusal;
 use crate::refusal::RefusalOfAlloc;
-use crate::refusal::RefusalOfBuild;
-use crate::refusal::RefusalOfCheck;
 use crate::refusal::RefusalOfDistance;
 use crate::refusal::RefusalOfFile;
+use crate::refusal::RefusalOfPlan;
 use crate::refusal::RefusalOfRack;
 use crate::refusal::tell;
-use builder::build::build;
-use check::check::check;
 use check::fault::CheckFault;
+use planning::plan::plan;
 use rack::cable::Cable;
 use rack::limits::Limits;
 use rack::numbers::Node;
@@ -108,24 +106,33 @@ fn plan_lines<'x, S: ForwardingSource>(
     let channels = rack.channel_count();
     let mut lanes = vec![in heap; 0u8; LEVELS * PORTS * channels]?;
     let mut levels = vec![in heap; 0u8; nodes * nodes]?;
-    build(heap, rack, source, LANES, &mut lanes, &mut levels)?;
+    let mut dependencies = vec![in heap; 0u64; PORTS * channels]?;
+    let mut ranks = vec![in heap; 0u16; 8 * channels]?;
+    let mut ring = vec![in heap; 0u16; 8 * channels]?;
+    let acceptance = plan(
+        heap,
+        rack,
+        source,
+        LANES,
+        &mut lanes,
+        &mut levels,
+        &mut dependencies,
+        &mut ranks,
+        &mut ring,
+    )?;
     let map = StoredRows {
         rack,
         lanes: &lanes,
     };
-    let plan = Plan {
+    let made = Plan {
         rack,
         source,
         map: &map,
         levels: &levels,
         lanes: LANES,
     };
-    let mut dependencies = vec![in heap; 0u64; PORTS * channels]?;
-    let mut ranks = vec![in heap; 0u16; 8 * channels]?;
-    let mut ring = vec![in heap; 0u16; 8 * channels]?;
-    let acceptance = check(heap, &plan, &mut dependencies, &mut ranks, &mut ring)?;
     let mut out = accepted_line(heap, acceptance.greatest_rank())?;
-    all_lines(heap, &plan, &mut out)?;
+    all_lines(heap, &made, &mut out)?;
     Ok(out)
 }
 
