@@ -26,10 +26,10 @@ fn has_room(n: u16, ranks: &[u16], ring: &[u16]) -> bool
 // (points + dependencies) x (greatest rank + 1) at most. Where there is a ring, the points that no ring leads to are
 // ranked so, one more round ranks none, and the walk back asks at most once for the forerunners of each point.
 pub fn rank<G: Graph>(graph: &G, ranks: &mut [u16], ring: &mut [u16]) -> Result<u16, RankFault>
-    ensures answer { Answered (follows graph.now) (size graph.now) ranks.old ranks.new ring.old ring.new result }
-    ensures refused { result ≡ Err Tables ↔ Short (size graph.now) ranks.old ring.old }
-    ensures ranked { Room (size graph.now) ranks.old ring.old → (is_ok result ≡ true ↔ NoRing (follows graph.now)) }
-    ensures ranks_iff_no_ring { Room (size graph.now) ranks.old ring.old → (HaveRanks (follows graph.now) (size graph.now) ↔ NoRing (follows graph.now)) }
+    ensures answer { Answered (G.follows graph.now) (G.size graph.now) ranks.old ranks.new ring.old ring.new result }
+    ensures refused { result ≡ Err Tables ↔ Short (G.size graph.now) ranks.old ring.old }
+    ensures ranked { Room (G.size graph.now) ranks.old ring.old → (is_ok result ≡ true ↔ NoRing (G.follows graph.now)) }
+    ensures ranks_iff_no_ring { Room (G.size graph.now) ranks.old ring.old → (HaveRanks (G.follows graph.now) (G.size graph.now) ↔ NoRing (G.follows graph.now)) }
 {
     let n = graph.points();
     if !has_room(n, ranks, ring) {

@@ -8,9 +8,9 @@ use crate::rounds::{Stall, clear};
 
 // The first forerunner of `y` that stands at `top` or more.
 fn before<G: Graph>(graph: &G, ranks: &[u16], n: u16, y: u16, top: u16) -> Option<u16>
-    requires held { Held (follows graph.now) (size graph.now) n ranks.now }
+    requires held { Held (G.follows graph.now) (G.size graph.now) n ranks.now }
     requires inside { y < n }
-    ensures { MatchOption result ((x : ℕ) → x < n → top ≤ slice_index ranks.now x → follows graph.now x y → ⊥) (λ x. (x < n) × (top ≤ slice_index ranks.now x) × follows graph.now x y) }
+    ensures { MatchOption result ((x : ℕ) → x < n → top ≤ slice_index ranks.now x → G.follows graph.now x y → ⊥) (λ x. (x < n) × (top ≤ slice_index ranks.now x) × G.follows graph.now x y) }
 {
     let mut from = 0;
     while let Some(x) = graph.next_forerunner(y, from) {
@@ -41,9 +41,9 @@ impl Span {
 
 // Walks back from the stall, and marks each point on the way, until one comes again.
 fn walk<G: Graph>(graph: &G, ranks: &mut [u16], n: u16, stall: Stall) -> Span
-    requires held { Held (follows graph.now) (size graph.now) n ranks.old }
-    requires stuck { Stuck (follows graph.now) n stall.first stall.top ranks.old }
-    ensures { Closed (follows graph.now) n result.lo result.hi ranks.old ranks.new }
+    requires held { Held (G.follows graph.now) (G.size graph.now) n ranks.old }
+    requires stuck { Stuck (G.follows graph.now) n stall.first stall.top ranks.old }
+    ensures { Closed (G.follows graph.now) n result.lo result.hi ranks.old ranks.new }
 {
     let Stall { first, top } = stall;
     let mut y = first;
@@ -78,10 +78,10 @@ fn gather(ranks: &[u16], n: u16, span: Span, ring: &mut [u16])
 
 // Writes a ring to `ring`, clears `ranks`, and answers the ring's length.
 pub fn show<G: Graph>(graph: &G, ranks: &mut [u16], n: u16, stall: Stall, ring: &mut [u16]) -> u16
-    requires held { Held (follows graph.now) (size graph.now) n ranks.old }
+    requires held { Held (G.follows graph.now) (G.size graph.now) n ranks.old }
     requires room { n ≤ length ring.old }
-    requires stuck { Stuck (follows graph.now) n stall.first stall.top ranks.old }
-    ensures { Ringed (follows graph.now) n result ranks.old ranks.new ring.old ring.new }
+    requires stuck { Stuck (G.follows graph.now) n stall.first stall.top ranks.old }
+    ensures { Ringed (G.follows graph.now) n result ranks.old ranks.new ring.old ring.new }
 {
     let span = walk(graph, ranks, n, stall);
     gather(ranks, n, span, ring);

@@ -16,10 +16,10 @@ pub fn clear(ranks: &mut [u16], n: u16)
 
 // Sets the place of each follower of `x` to `r + 1`.
 fn raise<G: Graph>(graph: &G, ranks: &mut [u16], n: u16, x: u16, r: u16)
-    requires held { Held (follows graph.now) (size graph.now) n ranks.old }
+    requires held { Held (G.follows graph.now) (G.size graph.now) n ranks.old }
     requires inside { x < n }
     requires small { r ≤ n }
-    ensures { Raised (follows graph.now) x (r + 1) ranks.old ranks.new }
+    ensures { Raised (G.follows graph.now) x (r + 1) ranks.old ranks.new }
 {
     let mut from = 0;
     while let Some(y) = graph.next_follower(x, from) {
@@ -30,10 +30,10 @@ fn raise<G: Graph>(graph: &G, ranks: &mut [u16], n: u16, x: u16, r: u16)
 
 // Round `r`: raises the followers of each point that ends a chain of `r` steps.
 fn round<G: Graph>(graph: &G, ranks: &mut [u16], n: u16, r: u16)
-    requires held { Held (follows graph.now) (size graph.now) n ranks.old }
+    requires held { Held (G.follows graph.now) (G.size graph.now) n ranks.old }
     requires small { r ≤ n }
-    requires level { Level (follows graph.now) n r ranks.old }
-    ensures { Turned (follows graph.now) n r ranks.old ranks.new }
+    requires level { Level (G.follows graph.now) n r ranks.old }
+    ensures { Turned (G.follows graph.now) n r ranks.old ranks.new }
 {
     for x in 0..n {
         if ranks[x as usize] >= r {
@@ -64,9 +64,9 @@ pub struct Stall {
 
 // Goes round, from zeros on, until each point is ranked, or a round ranks none.
 pub fn settle<G: Graph>(graph: &G, ranks: &mut [u16], n: u16) -> Result<u16, Stall>
-    requires held { Held (follows graph.now) (size graph.now) n ranks.old }
+    requires held { Held (G.follows graph.now) (G.size graph.now) n ranks.old }
     requires zeros { (y : ℕ) → y < n → slice_index ranks.old y ≡ 0 }
-    ensures { MatchResult result (λ top. Ranked (follows graph.now) n top ranks.old ranks.new) (λ s. Stuck (follows graph.now) n s.first s.top ranks.new × SameFrom n ranks.old ranks.new) }
+    ensures { MatchResult result (λ top. Ranked (G.follows graph.now) n top ranks.old ranks.new) (λ s. Stuck (G.follows graph.now) n s.first s.top ranks.new × SameFrom n ranks.old ranks.new) }
 {
     let mut r = 0;
     'turns: loop {

@@ -5,27 +5,27 @@ use Rattle.rack.specs.Racks.{node_count}
 use Rattle.builder.specs.Method.{tables, blank}
 use Rattle.builder.proofs.Taking.{blank_long, senders_more, receivers_none}
 use Rattle.builder.proofs.build.build_all.Goals as goal
-use Rattle.builder.proofs.build.build_all.Goals.{then-is-host+in-ok-build-sender, else-is-host}
+use Rattle.builder.proofs.build.build_all.Goals.{then-is_host+in_ok-build_sender, else-is_host}
 
-pub build-sender-requires : goal.build-sender-requires
-build-sender-requires g c =
+pub build_sender-requires : goal.build_sender-requires
+build_sender-requires g c =
     let long = blank_long c.args.rack.now (tables c.args.lanes.now c.args.levels.now) c.requires.zeros in
     record {
-      host = c.is-host.ensures.0 c.if-is-host.true;
+      host = c.is_host.ensures.0 c.if-is_host.true;
       range = c.requires.range;
       long = (omega (arith, long.0), omega (arith, long.1));
       room = c.loop-u.invariant.1;
     }
 
-pub returns-in-err-build-sender : goal.returns-in-err-build-sender
-returns-in-err-build-sender g c =
-    let q = err_from_is_err_and c.from-residual.result c.from-residual.ensures.1 in
+pub returns-in_err-build_sender : goal.returns-in_err-build_sender
+returns-in_err-build_sender g c =
+    let q = err_from_is_err_and c.from_residual.result c.from_residual.ensures.1 in
     rw (q.1, q.2)
     (record {
       sender = c.loop-u.u;
       there = tables c.loop-u.lanes c.loop-u.levels;
       before = c.loop-u.invariant.0;
-      row = c.in-err-build-sender.ensures.answer;
+      row = c.in_err-build_sender.ensures.answer;
     })
 
 pub loop-u-preserved : goal.loop-u-preserved
@@ -34,15 +34,15 @@ loop-u-preserved g c =
     let route = g.S.ForwardingSource.route c.args.source.now in
     let here = tables c.loop-u.lanes c.loop-u.levels in
     let u = c.loop-u.u in
-    elim c.if-is-host.branch [
-      | then-is-host+in-ok-build-sender w ↦
+    elim c.if-is_host.branch [
+      | then-is_host+in_ok-build_sender w ↦
           rw (w.lanes-is, w.levels-is, w.path_is) (
-            senders_more r route c.args.lane-count u (blank r) here (tables w.build-sender.new.lanes w.build-sender.new.levels) c.loop-u.invariant.0 w.in-ok-build-sender.ensures.answer,
-            w.build-sender.ensures.room,
+            senders_more r route c.args.lane_count u (blank r) here (tables w.build_sender.new.lanes w.build_sender.new.levels) c.loop-u.invariant.0 w.in_ok-build_sender.ensures.answer,
+            w.build_sender.ensures.room,
           )
-      | else-is-host w ↦
+      | else-is_host w ↦
           rw (w.lanes-is, w.levels-is, w.path_is) (
-            senders_more r route c.args.lane-count u (blank r) here here c.loop-u.invariant.0 (receivers_none r route c.args.lane-count u (node_count r) here (λ host. both_ways c.is-host.result w.if-is-host.false (c.is-host.ensures.1 host))),
+            senders_more r route c.args.lane_count u (blank r) here here c.loop-u.invariant.0 (receivers_none r route c.args.lane_count u (node_count r) here (λ host. both_ways c.is_host.result w.if-is_host.false (c.is_host.ensures.1 host))),
             c.loop-u.invariant.1,
           )
     ]

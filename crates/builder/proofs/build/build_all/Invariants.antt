@@ -5,5 +5,5 @@ use Rattle.builder.proofs.build.build_all.Given as goal
 
 abbrev pub invariant-loop-u : goal.invariant-loop-u
 invariant-loop-u g l =
-    Senders l.rack (g.S.ForwardingSource.route l.source) l.lane-count l.u (blank l.rack) (tables l.lanes l.levels)
+    Senders l.rack (g.S.ForwardingSource.route l.source) l.lane_count l.u (blank l.rack) (tables l.lanes l.levels)
     × (channel_count l.rack ≤ vec_capacity l.path)

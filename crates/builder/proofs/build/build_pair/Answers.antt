@@ -9,13 +9,13 @@ use Rattle.builder.proofs.Pathed.{passes}
 use Rattle.builder.proofs.Taking.{lacks_path}
 use Rattle.builder.proofs.build.build_pair.Goals as goal
 
-pub returns-in-err-path-of : goal.returns-in-err-path-of
-returns-in-err-path-of g c =
-    let q = err_from_is_err_and c.from-residual.result c.from-residual.ensures.1 in
+pub returns-in_err-path_of : goal.returns-in_err-path_of
+returns-in_err-path_of g c =
+    let q = err_from_is_err_and c.from_residual.result c.from_residual.ensures.1 in
     record {
       answer =
           rw (q.1, q.2)
-          (lacks_path c.args.rack.now (g.S.ForwardingSource.route c.args.source.now) c.args.lane-count c.args.pair (tables c.args.lanes.now c.args.levels.now) _ c.in-err-path-of.ensures.answer);
+          (lacks_path c.args.rack.now (g.S.ForwardingSource.route c.args.source.now) c.args.lane_count c.args.pair (tables c.args.lanes.now c.args.levels.now) _ c.in_err-path_of.ensures.answer);
       room = c.path_of.ensures.room;
     }
 
@@ -23,37 +23,37 @@ pub returns-then-len-from : goal.returns-then-len-from
 returns-then-len-from g c =
     let steps = vec_items c.path_of.new.path in
     record {
-      answer = (refl, (channels_of steps, c.in-ok-path-of.ensures.answer, omega (arith, as_long steps, c.path_of.new.path.ok.0, c.len.ensures, c.from.ensures, c.if-len-from.true)));
+      answer = (refl, (channels_of steps, c.in_ok-path_of.ensures.answer, omega (arith, as_long steps, c.path_of.new.path.ok.0, c.len.ensures, c.from.ensures, c.if-len-from.true)));
       room = c.path_of.ensures.room;
     }
 
-pub lowest-level-requires : goal.lowest-level-requires
-lowest-level-requires g c =
+pub lowest_level-requires : goal.lowest_level-requires
+lowest_level-requires g c =
     let r = c.args.rack.now in
     let p = c.args.pair in
     let steps = vec_items c.path_of.new.path in
-    let all = passes r (g.S.ForwardingSource.route c.args.source.now) p.sender.0 p.receiver.0 c.requires.hosts (channels_of steps) c.in-ok-path-of.ensures.answer in
+    let all = passes r (g.S.ForwardingSource.route c.args.source.now) p.sender.0 p.receiver.0 c.requires.hosts (channels_of steps) c.in_ok-path_of.ensures.answer in
     record {
       passes = subst (λ xs. Passes r (channels_of xs)) (sym c.deref.ensures.value) all;
       short = omega (arith, ap length c.deref.ensures.value, c.len.ensures, c.from.ensures, c.if-len-from.false, c.requires.range.1);
       long = c.requires.long.0;
     }
 
-pub returns-in-default : goal.returns-in-default
-returns-in-default g c =
+pub returns-in_default : goal.returns-in_default
+returns-in_default g c =
     let r = c.args.rack.now in
     let steps = vec_items c.path_of.new.path in
     record {
-      answer = (refl, (channels_of steps, c.in-ok-path-of.ensures.answer, omega (arith, as_long steps, c.path_of.new.path.ok.0, c.len.ensures, c.from.ensures, c.if-len-from.false), subst (λ xs. NoLevel r c.args.lanes.now (channels_of xs)) c.deref.ensures.value c.in-default.ensures));
+      answer = (refl, (channels_of steps, c.in_ok-path_of.ensures.answer, omega (arith, as_long steps, c.path_of.new.path.ok.0, c.len.ensures, c.from.ensures, c.if-len-from.false), subst (λ xs. NoLevel r c.args.lanes.now (channels_of xs)) c.deref.ensures.value c.in_default.ensures));
       room = c.path_of.ensures.room;
     }
 
-pub claim-all-requires : goal.claim-all-requires
-claim-all-requires g c =
+pub claim_all-requires : goal.claim_all-requires
+claim_all-requires g c =
     let r = c.args.rack.now in
     let p = c.args.pair in
     let steps = vec_items c.path_of.new.path in
-    let all = passes r (g.S.ForwardingSource.route c.args.source.now) p.sender.0 p.receiver.0 c.requires.hosts (channels_of steps) c.in-ok-path-of.ensures.answer in
+    let all = passes r (g.S.ForwardingSource.route c.args.source.now) p.sender.0 p.receiver.0 c.requires.hosts (channels_of steps) c.in_ok-path_of.ensures.answer in
     record {
       passes = subst (λ xs. Passes r (channels_of xs)) (sym c.deref-2.ensures.value) all;
       short = omega (arith, ap length c.deref-2.ensures.value, c.len.ensures, c.from.ensures, c.if-len-from.false, c.requires.range.1);
@@ -78,12 +78,12 @@ returns g c =
           record {
             path = channels_of steps;
             level = s;
-            walked = c.in-ok-path-of.ensures.answer;
+            walked = c.in_ok-path_of.ensures.answer;
             short = omega (arith, as_long steps, c.path_of.new.path.ok.0, c.len.ensures, c.from.ensures, c.if-len-from.false);
             placed =
                 record {
                   lowest = subst (λ xs. Lowest r lanes (channels_of xs) s) c.deref.ensures.value c.in-Some.ensures;
-                  claimed = subst (λ xs. Claimed r (channels_of xs) s lanes c.claim-all.new.lanes) c.deref-2.ensures.value c.claim-all.ensures;
+                  claimed = subst (λ xs. Claimed r (channels_of xs) s lanes c.claim_all.new.lanes) c.deref-2.ensures.value c.claim_all.ensures;
                   told = ap (λ k. set c.args.levels.now k c.number.result) c.place.ensures ∙ ap (set c.args.levels.now _) c.number.ensures.0;
                 };
           };

@@ -5,5 +5,5 @@ use Rattle.builder.proofs.build.build_sender.Given as goal
 
 abbrev pub invariant-loop-v : goal.invariant-loop-v
 invariant-loop-v g l =
-    Receivers l.rack (g.S.ForwardingSource.route l.source) l.lane-count l.sender.0 l.v (tables l.initial.lanes l.initial.levels) (tables l.lanes l.levels)
+    Receivers l.rack (g.S.ForwardingSource.route l.source) l.lane_count l.sender.0 l.v (tables l.initial.lanes l.initial.levels) (tables l.lanes l.levels)
     × (channel_count l.rack ≤ vec_capacity l.path)

@@ -3,7 +3,7 @@ use Rattle.builder.specs.Method.{channels_of}
 use Rattle.builder.proofs.Fitting.{Claiming, as_long, middle_at, turn_at, claim_at, claiming_more, claiming_end}
 use Rattle.builder.proofs.Rows.{rows_apart}
 use Rattle.builder.proofs.turns.claim_all.Goals as goal
-use Rattle.builder.proofs.turns.claim_all.Goals.{in-Some, in-default}
+use Rattle.builder.proofs.turns.claim_all.Goals.{in-Some, in_default}
 
 pub claim-requires : goal.claim-requires
 claim-requires c =
@@ -26,7 +26,7 @@ loop-j-preserved c =
           let m = middle_at r steps j x y c.loop-j.auto.j last w.index-path-j.is w.index-path-j-in-Some.is in
           let e = claim_at r steps j x y c.loop-j.auto.j last w.index-path-j.is w.index-path-j-in-Some.is c.loop-j.lanes c.match-new.lanes s w.in-Some.lane.number w.in-Some.ensures (w.lanes-is ∙ w.claim.ensures) in
           subst (Claiming r (channels_of steps) s (j + 1) c.args.lanes.now) (sym e) (claiming_more r (channels_of steps) s rows_apart c.requires.passes c.args.level.below j c.args.lanes.now c.loop-j.lanes m (omega arith) c.loop-j.invariant)
-      | in-default w ↦ absurd (omega (arith, w.in-default.ensures))
+      | in_default w ↦ absurd (omega (arith, w.in_default.ensures))
     ]
 
 pub returns : goal.returns

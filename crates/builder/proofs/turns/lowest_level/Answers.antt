@@ -3,7 +3,7 @@ use Rattle.std.proofs.lemmas.Bool.{both_ways}
 use Rattle.builder.specs.Method.{channels_of, Fits}
 use Rattle.builder.proofs.Fitting.{none_more}
 use Rattle.builder.proofs.turns.lowest_level.Goals as goal
-use Rattle.builder.proofs.turns.lowest_level.Goals.{in-Some+else-fits, in-default}
+use Rattle.builder.proofs.turns.lowest_level.Goals.{in-Some+else-fits, in_default}
 
 pub returns-then-fits : goal.returns-then-fits
 returns-then-fits c =
@@ -21,7 +21,7 @@ loop-number-preserved c =
     elim c.match-new.branch [
       | in-Some+else-fits w ↦
           none_more (Fits r c.args.lanes.now (channels_of steps)) c.loop-number.number w.in-Some.level.number w.in-Some.ensures c.loop-number.invariant (λ h. both_ways w.fits.result w.if-fits.false (w.fits.ensures.1 h))
-      | in-default w ↦ absurd (omega (arith, w.in-default.ensures))
+      | in_default w ↦ absurd (omega (arith, w.in_default.ensures))
     ]
 
 pub returns : goal.returns

@@ -8,4 +8,4 @@ returns-in-Ok c =
     let r = c.args.rack.now in
     let table = c.args.dependencies.now in
     let told = c.in-Ok.ensures.answer in
-    ((omega (arith, c.channel-count-channels.ensures.0), told.0.0, told.0.1), told.1, told.2, bare_free r table (channel_count r) _ _ _ refl told.1)
+    ((omega (arith, c.channel_count-channels.ensures.0), told.0.0, told.0.1), told.1, told.2, bare_free r table (channel_count r) _ _ _ refl told.1)

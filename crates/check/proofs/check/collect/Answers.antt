@@ -4,17 +4,17 @@ use Rattle.routing.specs.Paths.{routing}
 use Rattle.check.proofs.Pairing.{collected, zero_at}
 use Rattle.check.proofs.check.collect.Goals as goal
 
-pub returns-in-err-mark-all : goal.returns-in-err-mark-all
-returns-in-err-mark-all g c =
-    let q = err_from_is_err_and c.from-residual-in-err-mark-all.result c.from-residual-in-err-mark-all.ensures.1 in
-    rw (q.1, q.2) (inr c.in-err-mark-all.ensures.answer)
+pub returns-in_err-mark_all : goal.returns-in_err-mark_all
+returns-in_err-mark_all g c =
+    let q = err_from_is_err_and c.from_residual-in_err-mark_all.result c.from_residual-in_err-mark_all.ensures.1 in
+    rw (q.1, q.2) (inr c.in_err-mark_all.ensures.answer)
 
 pub returns : goal.returns
 returns g c =
     let R = routing c.args.plan.now.rack.now (g.S.ForwardingSource.route c.args.plan.now.source.now) (g.M.LaneMap.lanes c.args.plan.now.map.now) in
-    let told = c.in-ok-mark-all.ensures.answer in
-    let made = c.in-ok-marks.ensures in
-    let value = c.deref-mut.ensures.value in
-    let len = c.deref-mut.ensures.len in
-    collected R c.args.plan.now.levels.now c.args.plan.now.lanes c.deref-mut.result.now c.mark-all.new.marks c.in-ok-marks.marks.items c.in-ok-marks.marks.len
+    let told = c.in_ok-mark_all.ensures.answer in
+    let made = c.in_ok-marks.ensures in
+    let value = c.deref_mut.ensures.value in
+    let len = c.deref_mut.ensures.len in
+    collected R c.args.plan.now.levels.now c.args.plan.now.lanes c.deref_mut.result.now c.mark_all.new.marks c.in_ok-marks.marks.items c.in_ok-marks.marks.len
     told.0 told.1 (λ k. ap (λ xs. get_or xs k 0) (value ∙ made.items-if-clones-equal (λ y e. e)) ∙ zero_at _ k) (omega arith) (omega (arith, made.len))

@@ -15,8 +15,8 @@ bounds-marks-place c =
     let t = c.in-Some.ensures in
     omega arith
 
-pub returns-in-default : goal.returns-in-default
-returns-in-default c = absurd (both_ways (turns c.args.rack.now c.args.one.channel.0 c.args.other.channel.0) c.in-default.ensures c.requires.turn)
+pub returns-in_default : goal.returns-in_default
+returns-in_default c = absurd (both_ways (turns c.args.rack.now c.args.one.channel.0 c.args.other.channel.0) c.in_default.ensures c.requires.turn)
 
 pub returns : goal.returns
 returns c =

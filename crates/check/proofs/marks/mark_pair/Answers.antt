@@ -11,8 +11,8 @@ use Rattle.check.proofs.Marking.{list_turns, pair_adds, pair_fine}
 use Rattle.check.proofs.Pairing.{with_room}
 use Rattle.check.proofs.marks.mark_pair.Goals as goal
 
-pub returns-in-err-walk : goal.returns-in-err-walk
-returns-in-err-walk g c =
+pub returns-in_err-walk : goal.returns-in_err-walk
+returns-in_err-walk g c =
     let R = routing c.args.plan.now.rack.now (g.S.ForwardingSource.route c.args.plan.now.source.now) (g.M.LaneMap.lanes c.args.plan.now.map.now) in
     let levels = c.args.plan.now.levels.now in
     let lanes = c.args.plan.now.lanes in
@@ -20,14 +20,14 @@ returns-in-err-walk g c =
     let s = c.in-Some.level.number in
     let is : s ≡ level_at R.rack levels p.sender.0 p.receiver.0 = c.in-Some.ensures in
     let below = c.in-Some.level.below in
-    let q = err_from_is_err_and c.from-residual.result c.from-residual.ensures.1 in
+    let q = err_from_is_err_and c.from_residual.result c.from_residual.ensures.1 in
     record {
-      answer = rw (q.1, q.2) (omega arith, subst (λ n. WalkStops R lanes p n (channel_count R.rack) c.in-err-walk.field-0.0) is (with_room R lanes p s (vec_capacity c.args.path.now) c.in-err-walk.field-0.0 c.requires.cap c.in-err-walk.ensures.answer));
+      answer = rw (q.1, q.2) (omega arith, subst (λ n. WalkStops R lanes p n (channel_count R.rack) c.in_err-walk.field-0.0) is (with_room R lanes p s (vec_capacity c.args.path.now) c.in_err-walk.field-0.0 c.requires.cap c.in_err-walk.ensures.answer));
       cap = omega (arith, c.walk.ensures.room, c.requires.cap);
     }
 
-pub mark-path-requires : goal.mark-path-requires
-mark-path-requires g c =
+pub mark_path-requires : goal.mark_path-requires
+mark_path-requires g c =
     let R = routing c.args.plan.now.rack.now (g.S.ForwardingSource.route c.args.plan.now.source.now) (g.M.LaneMap.lanes c.args.plan.now.map.now) in
     let levels = c.args.plan.now.levels.now in
     let lanes = c.args.plan.now.lanes in
@@ -35,7 +35,7 @@ mark-path-requires g c =
     let s = c.in-Some.level.number in
     let path = vec_items c.walk.new.path in
     record {
-      turn = subst (λ (xs : List Step). (i : ℕ) (d : Step) → i + 1 < length xs → turns R.rack (get_or xs i d).channel.0 (get_or xs (i + 1) d).channel.0 ≡ true) (sym c.deref.ensures.value) (list_turns R levels lanes p s path c.in-ok-walk.ensures.answer);
+      turn = subst (λ (xs : List Step). (i : ℕ) (d : Step) → i + 1 < length xs → turns R.rack (get_or xs i d).channel.0 (get_or xs (i + 1) d).channel.0 ≡ true) (sym c.deref.ensures.value) (list_turns R levels lanes p s path c.in_ok-walk.ensures.answer);
       room = c.requires.room;
     }
 
@@ -49,9 +49,9 @@ returns g c =
     let is : s ≡ level_at R.rack levels p.sender.0 p.receiver.0 = c.in-Some.ensures in
     let below = c.in-Some.level.below in
     let path = vec_items c.walk.new.path in
-    let w = c.in-ok-walk.ensures.answer in
-    let adds = subst (λ (xs : List Step). Adds (ListSays R.rack xs (length xs - 1)) c.args.marks.now c.mark-path.new.marks) c.deref.ensures.value c.mark-path.ensures in
+    let w = c.in_ok-walk.ensures.answer in
+    let adds = subst (λ (xs : List Step). Adds (ListSays R.rack xs (length xs - 1)) c.args.marks.now c.mark_path.new.marks) c.deref.ensures.value c.mark_path.ensures in
     record {
-      answer = (pair_fine R levels lanes p s path w is c.requires.lanes (omega arith), pair_adds R levels lanes p s path w is c.args.marks.now c.mark-path.new.marks adds);
+      answer = (pair_fine R levels lanes p s path w is c.requires.lanes (omega arith), pair_adds R levels lanes p s path w is c.args.marks.now c.mark_path.new.marks adds);
       cap = omega (arith, c.walk.ensures.room, c.requires.cap);
     }

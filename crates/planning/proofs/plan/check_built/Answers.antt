@@ -9,7 +9,7 @@ returns g c =
     let route = g.S.ForwardingSource.route c.args.source.now in
     let lanes = c.args.lanes.now in
     let levels = c.args.levels.now in
-    let count = c.args.lane-count in
+    let count = c.args.lane_count in
     let before = tables_at c.args.dependencies.now c.args.ranks.now c.args.ring.now in
     record {
       answer = c.check.ensures.answer;

@@ -16,11 +16,11 @@ turns-smaller g c =
     let b = c.in-Some-find.ensures in
     fewer (g.G.Graph.follows c.args.graph.now) c.args.n c.requires.held.within c.turns.r c.turns.ranks c.round.new.ranks c.in-Some-find.field-0 c.round.ensures b.0 b.1
 
-pub returns-in-default : goal.returns-in-default
-returns-in-default g c =
-    ranked (g.G.Graph.follows c.args.graph.now) c.args.n c.requires.held.within c.turns.r c.args.ranks.now c.turns.ranks c.round.new.ranks c.turns.invariant c.round.ensures c.in-default.ensures
+pub returns-in_default : goal.returns-in_default
+returns-in_default g c =
+    ranked (g.G.Graph.follows c.args.graph.now) c.args.n c.requires.held.within c.turns.r c.args.ranks.now c.turns.ranks c.round.new.ranks c.turns.invariant c.round.ensures c.in_default.ensures
 
-pub returns-in-default-find : goal.returns-in-default-find
-returns-in-default-find g c =
+pub returns-in_default-find : goal.returns-in_default-find
+returns-in_default-find g c =
     let a = c.in-Some.ensures in
-    stuck (g.G.Graph.follows c.args.graph.now) c.args.n c.requires.held.within c.turns.r c.args.ranks.now c.turns.ranks c.round.new.ranks c.in-Some.first c.turns.invariant c.round.ensures a.0 a.1 c.in-default-find.ensures
+    stuck (g.G.Graph.follows c.args.graph.now) c.args.n c.requires.held.within c.turns.r c.args.ranks.now c.turns.ranks c.round.new.ranks c.in-Some.first c.turns.invariant c.round.ensures a.0 a.1 c.in_default-find.ensures

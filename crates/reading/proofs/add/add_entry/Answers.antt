@@ -7,17 +7,17 @@ use Rattle.reading.proofs.ForwardingPlaces.{below_count, place_within, forwarded
 use Rattle.reading.proofs.add.add_entry.Goals as goal
 use Rattle.reading.proofs.add.add_entry.Goals.{In-Some}
 
-pub returns-in-default : goal.returns-in-default
-returns-in-default c = λ limits net s.
+pub returns-in_default : goal.returns-in_default
+returns-in_default c = λ limits net s.
     let front = shows_front net.cables c.args.cables.now none (c.args.counts.cables - 0) (omega arith) (omega arith) s.cable in
-    inl (refl, λ all. c.in-default.ensures all.2.0 (subst (λ l. Leaves l (port_of c.args.entry.switch.0 c.args.entry.port.0) all.2.0) (sym front) all.2.1))
+    inl (refl, λ all. c.in_default.ensures all.2.0 (subst (λ l. Leaves l (port_of c.args.entry.switch.0 c.args.entry.port.0) all.2.0) (sym front) all.2.1))
 
 -- the switch and the host are nodes of the file
 switch_below : (c : In-Some) → c.args.entry.switch.0 < c.args.counts.nodes
-switch_below c = below_count _ _ _ 2 c.requires.beyond (sym c.kind-at.ensures ∙ c.if-kind-at-ne2.false) (omega arith)
+switch_below c = below_count _ _ _ 2 c.requires.beyond (sym c.kind_at.ensures ∙ c.if-kind_at-ne2.false) (omega arith)
 
 host_below : (c : In-Some) → c.args.entry.host.0 < c.args.counts.nodes
-host_below c = below_count _ _ _ 1 c.requires.beyond (sym c.kind-at-else-kind-at-ne2.ensures ∙ c.if-kind-at-ne1.false) (omega arith)
+host_below c = below_count _ _ _ 1 c.requires.beyond (sym c.kind_at-else-kind_at-ne2.ensures ∙ c.if-kind_at-ne1.false) (omega arith)
 
 within : (c : In-Some) → c.args.counts.nodes * c.args.entry.switch.0 + c.args.entry.host.0 < length c.args.forwarding.now
 within c = let w = place_within c.args.counts.nodes c.args.entry.switch.0 c.args.entry.host.0 (omega arith) (switch_below c) (host_below c) in omega arith
@@ -41,8 +41,8 @@ returns c = λ limits net s.
     let low : v < length net.nodes = omega (arith, host_below some) in (
       (
         (
-          sym (s.node w) ∙ sym c.kind-at.ensures ∙ c.if-kind-at-ne2.false,
-          sym (s.node v) ∙ sym c.kind-at-else-kind-at-ne2.ensures ∙ c.if-kind-at-ne1.false,
+          sym (s.node w) ∙ sym c.kind_at.ensures ∙ c.if-kind_at-ne2.false,
+          sym (s.node v) ∙ sym c.kind_at-else-kind_at-ne2.ensures ∙ c.if-kind_at-ne1.false,
           (c.in-Some.leaving, leaves),
           ⊎_elim (λ (h : (get_or c.args.forwarding.now (length net.nodes * w + v) 0 ≡ 0) × ((k : ℕ) → k < length net.entries → Names (get_or net.entries k nothing) w v → ⊥)). h.1) (λ h. absurd (omega (arith, h.5))) (s.hop w v low),
         ),

@@ -11,12 +11,12 @@ use Rattle.report.proofs.report.downhill_lines.Goals as goal
 pub returns : goal.returns
 returns c =
     let r = c.args.rack.now in
-    let v = c.in-ok-distances.distances in
-    let last = c.fill-distances.new.distances in
+    let v = c.in_ok-distances.distances in
+    let last = c.fill_distances.new.distances in
     let now = c.deref.result.now in
     let same : now ≡ last = c.deref.ensures.value ∙ take_at last (drop (length last) v.items) v.len (omega arith) in
-    let pairs : c.node-count-nodes.result * c.node-count-nodes.result ≡ node_count r * node_count r = ap (λ n. n * n) c.node-count-nodes.ensures.0 in
-    let long : node_count r * node_count r ≤ length c.deref-mut.result.now = omega (arith, pairs, c.in-ok-distances.ensures.len, c.deref-mut.ensures.len) in
+    let pairs : c.node_count-nodes.result * c.node_count-nodes.result ≡ node_count r * node_count r = ap (λ n. n * n) c.node_count-nodes.ensures.0 in
+    let long : node_count r * node_count r ≤ length c.deref_mut.result.now = omega (arith, pairs, c.in_ok-distances.ensures.len, c.deref_mut.ensures.len) in
     let route = downhill_route r now in
-    let downhill : DownhillRouted r route = (now, omega (arith, ap length same, long, c.fill-distances.auto.distances), subst (Distances r) (sym same) (c.fill-distances.ensures.filled long).1, refl) in
-    MatchResult-weaker c.source-lines.result c.source-lines.ensures (λ s t. (route, downhill, t)) (λ f l. lack_from r route (DownhillRouted r) f downhill l)
+    let downhill : DownhillRouted r route = (now, omega (arith, ap length same, long, c.fill_distances.auto.distances), subst (Distances r) (sym same) (c.fill_distances.ensures.filled long).1, refl) in
+    MatchResult-weaker c.source_lines.result c.source_lines.ensures (λ s t. (route, downhill, t)) (λ f l. lack_from r route (DownhillRouted r) f downhill l)

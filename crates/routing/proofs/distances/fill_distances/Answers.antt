@@ -5,12 +5,12 @@ use Rattle.std.proofs.lemmas.Bool.{both_ways}
 use Rattle.rack.specs.Racks.{node_count}
 use Rattle.routing.proofs.Filled.{filling_start, filling_skip, filling_host, filling_end, same_beyond}
 use Rattle.routing.proofs.distances.fill_distances.Goals as goal
-use Rattle.routing.proofs.distances.fill_distances.Goals.{then-is-host, else-is-host}
+use Rattle.routing.proofs.distances.fill_distances.Goals.{then-is_host, else-is_host}
 
 pub loop-host-init : goal.loop-host-init
 loop-host-init c =
     let n = node_count c.args.rack.now in
-    let same : c.node-count-count.result * c.node-count-count.result ≡ n * n = ap (λ x. x * x) c.node-count-count.ensures.0 in
+    let same : c.node_count-count.result * c.node_count-count.result ≡ n * n = ap (λ x. x * x) c.node_count-count.ensures.0 in
     let len : length c.fill.new.self ≡ n * n = search (rules, places) in
     filling_start c.args.rack.now _ (λ k h. get_or_append_left c.fill.new.self _ 0 k (omega arith) ∙ c.fill.ensures.clones k 0 (omega (arith, c.fill.ensures.len)) refl)
 
@@ -18,22 +18,22 @@ pub loop-host-preserved : goal.loop-host-preserved
 loop-host-preserved c =
     let r = c.args.rack.now in
     let h = c.loop-host.host in
-    elim c.if-is-host.branch [
-      | then-is-host w ↦
+    elim c.if-is_host.branch [
+      | then-is_host w ↦
           rw w.distances-is
-          (filling_host r h _ c.loop-host.distances w.fill-host.new.distances (c.is-host.ensures.0 w.if-is-host.true) (omega (arith, c.node-count-count.ensures.0, c.loop-host-test.true)) w.fill-host.ensures.column w.fill-host.ensures.beside c.loop-host.invariant)
-      | else-is-host w ↦
+          (filling_host r h _ c.loop-host.distances w.fill_host.new.distances (c.is_host.ensures.0 w.if-is_host.true) (omega (arith, c.node_count-count.ensures.0, c.loop-host-test.true)) w.fill_host.ensures.column w.fill_host.ensures.beside c.loop-host.invariant)
+      | else-is_host w ↦
           rw w.distances-is
-          (filling_skip r h _ c.loop-host.distances (λ host. both_ways c.is-host.result w.if-is-host.false (c.is-host.ensures.1 host)) c.loop-host.invariant)
+          (filling_skip r h _ c.loop-host.distances (λ host. both_ways c.is_host.result w.if-is_host.false (c.is_host.ensures.1 host)) c.loop-host.invariant)
     ]
 
 pub returns : goal.returns
 returns c =
     let n = node_count c.args.rack.now in
-    let same : c.node-count-count.result * c.node-count-count.result ≡ n * n = ap (λ x. x * x) c.node-count-count.ensures.0 in
-    let len : length c.fill.new.self ≡ c.node-count-count.result * c.node-count-count.result - 0 = search (rules, places) in
+    let same : c.node_count-count.result * c.node_count-count.result ≡ n * n = ap (λ x. x * x) c.node_count-count.ensures.0 in
+    let len : length c.fill.new.self ≡ c.node_count-count.result * c.node_count-count.result - 0 = search (rules, places) in
     record {
       short = λ h. absurd (omega (arith, c.if-distances-count.false));
-      filled = λ h. (refl, filling_end c.args.rack.now c.loop-host.host _ c.loop-host.distances (omega (arith, c.node-count-count.ensures.0, c.loop-host-test.false)) c.loop-host.invariant);
+      filled = λ h. (refl, filling_end c.args.rack.now c.loop-host.host _ c.loop-host.distances (omega (arith, c.node_count-count.ensures.0, c.loop-host-test.false)) c.loop-host.invariant);
       beyond = same_beyond (n * n) c.loop-host.distances _ c.loop-host.auto.distances c.loop-host.invariant.beyond ∙ drop-append-drop _ c.args.distances.now c.fill.new.self (n * n) (omega arith) len;
     }

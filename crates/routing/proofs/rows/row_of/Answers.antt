@@ -12,5 +12,5 @@ from_part at place xs (Some w) e l h = (omega (arith, length-drop place xs, h.0)
 
 pub returns : goal.returns
 returns c =
-    from_part (row_start c.args.channel.0 c.args.port.0) c.row-place-place.result c.args.lanes.now c.take.result c.row-place-place.ensures c.if-place-lanes.false
-    (rw (take_rest c.args.lanes.now c.row-place-place.result) at c.take.ensures)
+    from_part (row_start c.args.channel.0 c.args.port.0) c.row_place-place.result c.args.lanes.now c.take.result c.row_place-place.ensures c.if-place-lanes.false
+    (rw (take_rest c.args.lanes.now c.row_place-place.result) at c.take.ensures)

@@ -3,11 +3,11 @@ use Rattle.rack.proofs.Facts.{tail_port_within}
 use Rattle.routing.proofs.Tests.{turns_yes, turns_none, turns_past, turns_other}
 use Rattle.routing.proofs.rows.turn_port.Goals as goal
 
-pub returns-in-default : goal.returns-in-default
-returns-in-default c = turns_none c.args.rack.now c.args.arriving.0 c.args.leaving.0 c.in-default.ensures
+pub returns-in_default : goal.returns-in_default
+returns-in_default c = turns_none c.args.rack.now c.args.arriving.0 c.args.leaving.0 c.in_default.ensures
 
-pub returns-in-default-ends : goal.returns-in-default-ends
-returns-in-default-ends c = turns_past c.args.rack.now c.args.arriving.0 c.args.leaving.0 c.in-default-ends.ensures
+pub returns-in_default-ends : goal.returns-in_default-ends
+returns-in_default-ends c = turns_past c.args.rack.now c.args.arriving.0 c.args.leaving.0 c.in_default-ends.ensures
 
 pub returns-then-ends-switch : goal.returns-then-ends-switch
 returns-then-ends-switch c =

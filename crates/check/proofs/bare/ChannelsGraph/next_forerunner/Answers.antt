@@ -5,16 +5,16 @@ use Rattle.check.specs.Words.{ChannelFollowedBy}
 use Rattle.check.proofs.Scans.{go_below, go_passed, go_end}
 use Rattle.check.proofs.bare.ChannelsGraph.next_forerunner.Goals as goal
 
-pub returns-then-is-marked : goal.returns-then-is-marked
-returns-then-is-marked c =
+pub returns-then-is_marked : goal.returns-then-is_marked
+returns-then-is_marked c =
     let r = c.args.self.now.rack.now in
     let table = c.args.self.now.dependencies.now in
     let y = c.args.y in
     let w = c.in-Some.ends.tail.node.0 in
     let at : c.in-Some.ends.tail.node.0 ≡ tail r y = ap (λ e. e.node.0) c.in-Some.ensures.1 in
-    let told = c.in-Some-next-entering.ensures in
-    let marked = c.is-marked.ensures.0 c.if-is-marked.true in
-    (omega arith, (told.1.0, c.requires, sym (told.1.1 ∙ at), marked.1), λ z l u. go_below (λ d. ChannelFollowedBy r table d y) (Entering r w) c.args.from (λ d f. (f.0, sym f.2 ∙ sym at)) c.loop-arriving.next.0 c.in-Some-next-entering.arriving.0 c.loop-arriving.invariant.0 told.2 z l u)
+    let told = c.in-Some-next_entering.ensures in
+    let marked = c.is_marked.ensures.0 c.if-is_marked.true in
+    (omega arith, (told.1.0, c.requires, sym (told.1.1 ∙ at), marked.1), λ z l u. go_below (λ d. ChannelFollowedBy r table d y) (Entering r w) c.args.from (λ d f. (f.0, sym f.2 ∙ sym at)) c.loop-arriving.next.0 c.in-Some-next_entering.arriving.0 c.loop-arriving.invariant.0 told.2 z l u)
 
 pub loop-arriving-preserved : goal.loop-arriving-preserved
 loop-arriving-preserved c =
@@ -23,8 +23,8 @@ loop-arriving-preserved c =
     let y = c.args.y in
     let w = c.in-Some.ends.tail.node.0 in
     let at : c.in-Some.ends.tail.node.0 ≡ tail r y = ap (λ e. e.node.0) c.in-Some.ensures.1 in
-    let told = c.in-Some-next-entering.ensures in
-    (go_passed (λ d. ChannelFollowedBy r table d y) (Entering r w) c.args.from (λ d f. (f.0, sym f.2 ∙ sym at)) c.loop-arriving.next.0 c.in-Some-next-entering.arriving.0 c.loop-arriving.invariant.0 told.2 (λ f. both_ways c.is-marked.result c.if-is-marked.false (c.is-marked.ensures.1 (f.1, f.3))), omega arith)
+    let told = c.in-Some-next_entering.ensures in
+    (go_passed (λ d. ChannelFollowedBy r table d y) (Entering r w) c.args.from (λ d f. (f.0, sym f.2 ∙ sym at)) c.loop-arriving.next.0 c.in-Some-next_entering.arriving.0 c.loop-arriving.invariant.0 told.2 (λ f. both_ways c.is_marked.result c.if-is_marked.false (c.is_marked.ensures.1 (f.1, f.3))), omega arith)
 
 pub returns : goal.returns
 returns c =
@@ -33,4 +33,4 @@ returns c =
     let y = c.args.y in
     let w = c.in-Some.ends.tail.node.0 in
     let at : c.in-Some.ends.tail.node.0 ≡ tail r y = ap (λ e. e.node.0) c.in-Some.ensures.1 in
-    go_end (λ d. ChannelFollowedBy r table d y) (Entering r w) c.args.from (λ d f. (f.0, sym f.2 ∙ sym at)) c.loop-arriving.next.0 c.loop-arriving.invariant.0 (λ e l o. c.in-default-next-entering.ensures e l o)
+    go_end (λ d. ChannelFollowedBy r table d y) (Entering r w) c.args.from (λ d f. (f.0, sym f.2 ∙ sym at)) c.loop-arriving.next.0 c.loop-arriving.invariant.0 (λ e l o. c.in_default-next_entering.ensures e l o)

@@ -11,10 +11,10 @@ returns-in-Some-lowest c =
     let x = c.args.x in
     let w = c.in-Some.switch.0 in
     let sw = c.in-Some.ensures in
-    let told = c.in-Some-next-leaving.ensures in
+    let told = c.in-Some-next_leaving.ensures in
     let low = c.in-Some-lowest.ensures in
     scan_found (λ y. FollowedBy r table x y) (Leaving r w) (λ d i. bit (word_of r table (x / 8) d) (8 * (x % 8) + 1 * i)) c.args.from (follower_sound r table x w sw) (λ d q. follower_makes r table x w d q c.requires)
-    c.loop-leaving.next.0 c.in-Some-next-leaving.leaving.0 c.in-Some-lowest.lane c.low_lane.result _ c.loop-leaving.invariant.1 c.loop-leaving.invariant.0 told.0 told.1 told.2 c.low_lane.ensures
+    c.loop-leaving.next.0 c.in-Some-next_leaving.leaving.0 c.in-Some-lowest.lane c.low_lane.result _ c.loop-leaving.invariant.1 c.loop-leaving.invariant.0 told.0 told.1 told.2 c.low_lane.ensures
     low.0 low.1 (subst (λ b. bit b (8 * (x % 8) + 1 * c.in-Some-lowest.lane) ≡ true) c.word-bits.ensures low.2) (λ i a b. subst (λ b. bit b (8 * (x % 8) + 1 * i) ≡ false) c.word-bits.ensures (low.3 i a b)) (omega (arith, c.from.ensures))
 
 pub loop-leaving-preserved : goal.loop-leaving-preserved
@@ -24,9 +24,9 @@ loop-leaving-preserved c =
     let x = c.args.x in
     let w = c.in-Some.switch.0 in
     let sw = c.in-Some.ensures in
-    let told = c.in-Some-next-leaving.ensures in (
+    let told = c.in-Some-next_leaving.ensures in (
       scan_passed (λ y. FollowedBy r table x y) (Leaving r w) (λ d i. bit (word_of r table (x / 8) d) (8 * (x % 8) + 1 * i)) c.args.from (follower_sound r table x w sw) (λ d q. follower_makes r table x w d q c.requires)
-          c.loop-leaving.next.0 c.in-Some-next-leaving.leaving.0 c.low_lane.result c.loop-leaving.invariant.0 told.2 c.low_lane.ensures (λ i a b. subst (λ b. bit b (8 * (x % 8) + 1 * i) ≡ false) c.word-bits.ensures (c.in-default-lowest.ensures i a b)),
+          c.loop-leaving.next.0 c.in-Some-next_leaving.leaving.0 c.low_lane.result c.loop-leaving.invariant.0 told.2 c.low_lane.ensures (λ i a b. subst (λ b. bit b (8 * (x % 8) + 1 * i) ≡ false) c.word-bits.ensures (c.in_default-lowest.ensures i a b)),
       omega arith,
     )
 
@@ -38,4 +38,4 @@ returns c =
     let w = c.in-Some.switch.0 in
     let sw = c.in-Some.ensures in
     scan_end (λ y. FollowedBy r table x y) (Leaving r w) (λ d i. bit (word_of r table (x / 8) d) (8 * (x % 8) + 1 * i)) c.args.from (follower_sound r table x w sw)
-    c.loop-leaving.next.0 c.loop-leaving.invariant.0 (λ e l out. c.in-default-next-leaving.ensures e l out)
+    c.loop-leaving.next.0 c.loop-leaving.invariant.0 (λ e l out. c.in_default-next_leaving.ensures e l out)

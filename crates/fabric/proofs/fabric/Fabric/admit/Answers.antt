@@ -6,20 +6,20 @@ use Rattle.fabric.proofs.fabric.Fabric.admit.Goals as goal
 
 pub returns : goal.returns
 returns g c =
-    let inside = c.in-ok-channel.ensures in
+    let inside = c.in_ok-channel.ensures in
     let q = contents_of c.args.queues.now in
-    let packet : Packet = record { pair = c.args.pair; level = c.in-ok-channel.level; hop = 0; tag = c.args.tag } in
+    let packet : Packet = record { pair = c.args.pair; level = c.in_ok-channel.level; hop = 0; tag = c.args.tag } in
     let place = ap (λ n. 8 * n) c.from-place.ensures in
     record {
-      ready = c.in-ok-ready.ensures;
+      ready = c.in_ok-ready.ensures;
       pair = inside.0;
-      out = c.in-ok-channel.channel.0;
+      out = c.in_ok-channel.channel.0;
       leaves = inside.1;
-      fits = omega (arith, c.count-at.ensures, c.room.ensures.is, ap (λ n. length (at q n)) place);
+      fits = omega (arith, c.count_at.ensures, c.room.ensures.is, ap (λ n. length (at q n)) place);
       packet = packet;
       its_pair = refl;
       its_level = inside.2;
       its_hop = refl;
       its_tag = refl;
-      pushed = c.push-at.ensures ∙ ap (λ n. push q n packet) place;
+      pushed = c.push_at.ensures ∙ ap (λ n. push q n packet) place;
     }

@@ -4,14 +4,14 @@ use Rattle.fabric.proofs.fabric.Fabric.first_at.Goals as goal
 
 pub returns-in-Some : goal.returns-in-Some
 returns-in-Some g c = (
-  c.in-ok-ready.ensures,
+  c.in_ok-ready.ensures,
   omega arith,
-  waits_first c.args.queues.now c.args.from.0 c.from-place.result c.index-queues-place.result c.from-place.ensures (omega (arith, c.in-ok-ready.ensures.1.1)) c.index-queues-place.is c.first.result c.in-Some.packet c.first.ensures c.in-Some.is,
+  waits_first c.args.queues.now c.args.from.0 c.from-place.result c.index-queues-place.result c.from-place.ensures (omega (arith, c.in_ok-ready.ensures.1.1)) c.index-queues-place.is c.first.result c.in-Some.packet c.first.ensures c.in-Some.is,
 )
 
 pub returns-in-None : goal.returns-in-None
 returns-in-None g c = (
-  c.in-ok-ready.ensures,
+  c.in_ok-ready.ensures,
   omega arith,
-  waits_none c.args.queues.now c.args.from.0 c.from-place.result c.index-queues-place.result c.from-place.ensures (omega (arith, c.in-ok-ready.ensures.1.1)) c.index-queues-place.is c.first.result c.first.ensures c.in-None.is,
+  waits_none c.args.queues.now c.args.from.0 c.from-place.result c.index-queues-place.result c.from-place.ensures (omega (arith, c.in_ok-ready.ensures.1.1)) c.index-queues-place.is c.first.result c.first.ensures c.in-None.is,
 )

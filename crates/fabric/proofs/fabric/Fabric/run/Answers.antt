@@ -4,18 +4,18 @@ use Rattle.fabric.proofs.fabric.Fabric.run.Goals as goal
 
 pub loop-call-init : goal.loop-call-init
 loop-call-init g c =
-    let made = c.in-ok-answers.ensures in
-    (made.len, made.capacity, performs_none _ _ (vec_items c.in-ok-answers.answers) made.items)
+    let made = c.in_ok-answers.ensures in
+    (made.len, made.capacity, performs_none _ _ (vec_items c.in_ok-answers.answers) made.items)
 
-pub push-reserved-requires : goal.push-reserved-requires
-push-reserved-requires g c = omega (arith, c.loop-call.invariant.0, c.loop-call.invariant.1, c.loop-call-test.true)
+pub push_reserved-requires : goal.push_reserved-requires
+push_reserved-requires g c = omega (arith, c.loop-call.invariant.0, c.loop-call.invariant.1, c.loop-call-test.true)
 
 pub loop-call-preserved : goal.loop-call-preserved
 loop-call-preserved g c =
-    let pushed = c.push-reserved.ensures in (
+    let pushed = c.push_reserved.ensures in (
       omega (arith, pushed.len, c.loop-call.invariant.0),
       omega (arith, pushed.capacity, c.loop-call.invariant.1),
-      performs_push _ _ c.args.calls.now (vec_items c.loop-call.answers) (vec_items c.push-reserved.new.self) c.loop-call.call-index _ c.act.result _ _
+      performs_push _ _ c.args.calls.now (vec_items c.loop-call.answers) (vec_items c.push_reserved.new.self) c.loop-call.call-index _ c.act.result _ _
           c.loop-call-test.true c.loop-call.invariant.2 c.act.ensures pushed.items,
     )
 

@@ -1,5 +1,5 @@
 use Rattle.rack.proofs.Walks.{out_of_host}
 use Rattle.rack.proofs.rack.Rack.channel_out.Goals as goal
 
-pub returns-then-is-host : goal.returns-then-is-host
-returns-then-is-host c = out_of_host c.args.self.now c.args.host.0 c.next-leaving.result (c.is-host.ensures.0 c.if-is-host.true) c.next-leaving.ensures
+pub returns-then-is_host : goal.returns-then-is_host
+returns-then-is_host c = out_of_host c.args.self.now c.args.host.0 c.next_leaving.result (c.is_host.ensures.0 c.if-is_host.true) c.next_leaving.ensures

@@ -17,9 +17,9 @@ loop-from-preserved c =
 
 pub returns-then-from-count : goal.returns-then-from-count
 returns-then-from-count c =
-    let low : c.args.from.0 ≤ c.way-back-then-from-count.result.0 = search rules in
+    let low : c.args.from.0 ≤ c.way_back-then-from-count.result.0 = search rules in
     found_entering c.args.self.now c.args.from.0 c.args.node.0 c.loop-from.channel _ (c.loop-from.invariant c.args.node.0 (omega arith) (reads_at _ _ _ _ c.index-channel.ensures c.from-2.ensures)) (omega arith)
-    c.way-back-then-from-count.ensures low
+    c.way_back-then-from-count.ensures low
 
 pub returns-else-from-count : goal.returns-else-from-count
 returns-else-from-count c =

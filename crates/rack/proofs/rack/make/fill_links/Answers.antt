@@ -7,6 +7,6 @@ pub loop-channel-preserved : goal.loop-channel-preserved
 loop-channel-preserved c =
     let n = c.loop-channel.channel in
     let e : n ≡ (n - 1) + 1 = omega arith in
-    linked_more c.args.cables.now c.loop-channel.firsts c.loop-channel.nexts (n - 1) c.from-tail.result (omega arith) (omega arith) (sym (c.from-tail.ensures ∙ ap (λ (x : End). x.node.0) c.tail-of.ensures))
-    (omega (arith, c.requires.tails (n - 1) (omega arith), ap (λ (x : End). x.node.0) c.tail-of.ensures))
+    linked_more c.args.cables.now c.loop-channel.firsts c.loop-channel.nexts (n - 1) c.from-tail.result (omega arith) (omega arith) (sym (c.from-tail.ensures ∙ ap (λ (x : End). x.node.0) c.tail_of.ensures))
+    (omega (arith, c.requires.tails (n - 1) (omega arith), ap (λ (x : End). x.node.0) c.tail_of.ensures))
     (subst (LinkedFrom c.args.cables.now c.loop-channel.firsts c.loop-channel.nexts) e c.loop-channel.invariant)

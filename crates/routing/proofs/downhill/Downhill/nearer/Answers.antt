@@ -14,16 +14,16 @@ loop-channel-preserved c =
     let told = c.in-Some.ensures in
     below_more (λ d. one_nearer r table w v d ≡ false) _
     (passed r table w v c.loop-channel.from.0 c.in-Some.channel.0 (omega arith) c.loop-channel.invariant told.2)
-    (nearer_not r table w v c.in-Some.channel.0 (λ e. both_ways c.leads-nearer.result c.if-leads-nearer.false (c.leads-nearer.ensures.1 (told.1.0, e ∙ sym c.requires))))
+    (nearer_not r table w v c.in-Some.channel.0 (λ e. both_ways c.leads_nearer.result c.if-leads_nearer.false (c.leads_nearer.ensures.1 (told.1.0, e ∙ sym c.requires))))
 
-pub returns-then-leads-nearer : goal.returns-then-leads-nearer
-returns-then-leads-nearer c =
+pub returns-then-leads_nearer : goal.returns-then-leads_nearer
+returns-then-leads_nearer c =
     let r = c.args.self.now.rack.now in
     let table = c.args.self.now.distances.now in
     let w = c.args.switch.0 in
     let v = c.args.host.0 in
     let told = c.in-Some.ensures in
-    let near = c.leads-nearer.ensures.0 c.if-leads-nearer.true in
+    let near = c.leads_nearer.ensures.0 c.if-leads_nearer.true in
     sym (least_some (one_nearer r table w v) 0 (channel_count r) c.in-Some.channel.0 (omega arith) (omega (arith, near.0)) (nearer_yes r table w v c.in-Some.channel.0 told.1.1 (near.1 ∙ c.requires)) (λ d l u. passed r table w v c.loop-channel.from.0 c.in-Some.channel.0 (omega (arith, near.0)) c.loop-channel.invariant told.2 d u))
 
 pub returns : goal.returns
@@ -32,4 +32,4 @@ returns c =
     let table = c.args.self.now.distances.now in
     let w = c.args.switch.0 in
     let v = c.args.host.0 in
-    sym (least_none (one_nearer r table w v) 0 (channel_count r) (λ d l u. passed r table w v c.loop-channel.from.0 (channel_count r) (omega arith) c.loop-channel.invariant (λ d h k leaving. c.in-default.ensures d h leaving) d (omega arith)))
+    sym (least_none (one_nearer r table w v) 0 (channel_count r) (λ d l u. passed r table w v c.loop-channel.from.0 (channel_count r) (omega arith) c.loop-channel.invariant (λ d h k leaving. c.in_default.ensures d h leaving) d (omega arith)))
