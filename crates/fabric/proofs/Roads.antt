@@ -202,11 +202,11 @@ module _ (s : Setup) (ranged : Ranged s.lanes) (sound : Sound s.routes s.levels 
     leads_home x e = cond_true _ _ _ (eq-eqb (head r (x / 8)) d.pair.receiver.0 (e ∙ ap (λ (q : Pair). q.receiver.0) (sym its)))
 
     pub leads_on : (x : ℕ) (k o : Hop) → x ≡ virtual k → k.lane < 8 → enters_switch r k.channel ≡ true → behind g v level (Some k) ≡ Some o → leads s x d ≡ to (virtual o)
-    leads_on x k o is narrow-k sw next =
-        let c : x / 8 ≡ k.channel = ap (λ n. n / 8) is ∙ channel_of k narrow-k in
+    leads_on x k o is narrow_k sw next =
+        let c : x / 8 ≡ k.channel = ap (λ n. n / 8) is ∙ channel_of k narrow_k in
         let other : head r (x / 8) ≡ d.pair.receiver.0 → ⊥ = λ e. not_home k.channel sw (ap (head r) (sym c) ∙ e ∙ ap (λ (q : Pair). q.receiver.0) its) in
         let there : behind g d.pair.receiver.0 (level_for s d.pair) (Some (hop (x / 8) (x % 8))) ≡ Some o =
-        ap (λ (q : Pair). behind g q.receiver.0 (level_for s q) (Some (hop (x / 8) (x % 8)))) its ∙ ap (λ n. behind g v level (Some (hop (n / 8) (n % 8)))) is ∙ ap (λ y. behind g v level (Some y)) (hop_again k narrow-k) ∙ next in
+        ap (λ (q : Pair). behind g q.receiver.0 (level_for s q) (Some (hop (x / 8) (x % 8)))) its ∙ ap (λ n. behind g v level (Some (hop (n / 8) (n % 8)))) is ∙ ap (λ y. behind g v level (Some y)) (hop_again k narrow_k) ∙ next in
         cond_false _ _ _ (ne_eqb (head r (x / 8)) d.pair.receiver.0 other) ∙ ap on_hop there
 
     list_on : (i m : ℕ) (k : Hop) → HopIs i k → hops_on g out v level i (suc m) ≡ virtual k ∷ hops_on g out v level (suc i) m

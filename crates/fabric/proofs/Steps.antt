@@ -200,8 +200,8 @@ module _ (s : Setup) (ranged : Ranged s.lanes) (sound : Sound s.routes s.levels 
         let i = all.0 in
         let w = here_of x p i in
         let k = w.now in
-        let narrow-k = narrow s ranged sound p.pair i.pair p.hop k w.is in
-        let c : x / 8 ≡ k.channel = ap (λ z. z / 8) w.number ∙ channel_of k narrow-k in
+        let narrow_k = narrow s ranged sound p.pair i.pair p.hop k w.is in
+        let c : x / 8 ≡ k.channel = ap (λ z. z / 8) w.number ∙ channel_of k narrow_k in
         let sw : enters_switch s.routes.rack k.channel ≡ true = subst (λ z. enters_switch s.routes.rack z ≡ true) c goes.0 in
         let inside : y < n = omega (arith, turns_below s.routes.rack (x / 8) h.channel goes.2, goes.4, ranged.1) in
         let q₁ = set q x rest in
@@ -212,7 +212,7 @@ module _ (s : Setup) (ranged : Ranged s.lanes) (sound : Sound s.routes s.levels 
             rest = map delivery rest;
             next = y;
             first = first_stands x p rest l e;
-            leads = leads_on s ranged sound p.pair i.pair (delivery p) refl x k h w.number narrow-k sw (next_here x p i h goes).0;
+            leads = leads_on s ranged sound p.pair i.pair (delivery p) refl x k h w.number narrow_k sw (next_here x p i h goes).0;
             there = omega (arith, stand_length n q long_q);
             fits = omega (arith, count_stands y inside, m.can.fits);
             after = ap (stand n) m.pushed ∙ stand_push n q₁ long_1 y (moved p) inside ∙ ap (λ t. push t y (delivery p)) (stand_set n q long_q x rest l);

@@ -69,7 +69,7 @@ pub linked_more :
     LinkedFrom cs firsts nexts (c + 1) → LinkedFrom cs (set firsts t c) (set nexts c (get_or firsts t 0)) c
 linked_more cs firsts nexts c t h long is low old =
     let within : c < length nexts = omega arith in
-    let old-first = old.first t low in
+    let old_first = old.first t low in
     record {
       first = λ v l.
           at_set (λ y. (c ≤ y) × (y ≤ channels cs) × (y < channels cs → (tail_end cs y).node.0 ≡ v)) firsts t v c low
@@ -85,7 +85,7 @@ linked_more cs firsts nexts c t h long is low old =
           (cases_eq d c));
       next = λ b a l.
           at_set (λ y. (b < y) × (y ≤ channels cs) × (y < channels cs → (tail_end cs y).node.0 ≡ (tail_end cs b).node.0)) nexts c b (get_or firsts t 0) within
-          (λ e. (omega (arith, old-first.0), old-first.1, λ s. old-first.2 s ∙ sym is ∙ ap (λ x. (tail_end cs x).node.0) (sym e)))
+          (λ e. (omega (arith, old_first.0), old_first.1, λ s. old_first.2 s ∙ sym is ∙ ap (λ x. (tail_end cs x).node.0) (sym e)))
           (λ n. old.next b (omega arith) l);
       nearest = λ b d a.
           at_set (λ y. b < d → d < y → Out cs (tail_end cs b).node.0 d → ⊥) nexts c b (get_or firsts t 0) within

@@ -60,13 +60,13 @@ module _ (nodes : List ℕ) (cables : List Cable) (entries : List Entry) (e : En
       ((w v : ℕ) → v < n → Forwarded before w v (get_or table (n * w + v) 0)) →
       (w v : ℕ) → v < n → Forwarded after w v (get_or (set table (n * e.switch.0 + e.host.0) (c + 1)) (n * w + v) 0)
   forwarded_push table n c within fits leaves hops w v h =
-      let at-e = n * e.switch.0 + e.host.0 in
+      let at_e = n * e.switch.0 + e.host.0 in
       ⊎_elim
-      (λ (at : n * w + v ≡ at-e).
+      (λ (at : n * w + v ≡ at_e).
       let pair = same_pair n w v e.switch.0 e.host.0 h within at in
-      let x = ap (λ i. get_or (set table at-e (c + 1)) i 0) at ∙ get_or-set_same table at-e (c + 1) 0 fits in
+      let x = ap (λ i. get_or (set table at_e (c + 1)) i 0) at ∙ get_or-set_same table at_e (c + 1) 0 fits in
       subst (Forwarded after w v) (sym x) (subst (λ a. Forwarded after a v (c + 1)) (sym pair.0) (subst (λ b. Forwarded after e.switch.0 b (c + 1)) (sym pair.1) (this_pair c leaves))))
-      (λ (off : n * w + v ≡ at-e → ⊥).
-      subst (Forwarded after w v) (sym (get_or-set_other table at-e (n * w + v) (c + 1) 0 off))
+      (λ (off : n * w + v ≡ at_e → ⊥).
+      subst (Forwarded after w v) (sym (get_or-set_other table at_e (n * w + v) (c + 1) 0 off))
       (other_pair w v _ (λ named. off (ap (λ a. n * a + v) (sym named.0) ∙ ap (λ b. n * e.switch.0 + b) (sym named.1))) (hops w v h)))
-      (cases_eq (n * w + v) at-e)
+      (cases_eq (n * w + v) at_e)

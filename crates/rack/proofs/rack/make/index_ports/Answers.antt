@@ -8,7 +8,7 @@ pub fill_ports-requires : goal.fill_ports-requires
 fill_ports-requires c =
     let nodes = c.args.nodes.now in
     let cs = c.args.cables.now in
-    let all = replicated c.deref_mut.result.now (37 * length nodes) 65535 (c.deref_mut.ensures.value ∙ c.in_ok-ports.ensures.items-if-clones-equal (λ y h. h)) in
+    let all = replicated c.deref_mut.result.now (37 * length nodes) 65535 (c.deref_mut.ensures.value ∙ c.in_ok-ports.ensures.items_if_clones_equal (λ y h. h)) in
     record { few = c.requires.0.1; placed = subst (Placed cs) (sym all.0) (placed nodes cs c.requires); blank = all.1 }
 
 pub returns : goal.returns

@@ -8,8 +8,8 @@ pub fill_links-requires : goal.fill_links-requires
 fill_links-requires c =
     let nodes = c.args.nodes.now in
     let cs = c.args.cables.now in
-    let heads = replicated c.deref_mut.result.now (length nodes) (channels cs) (c.deref_mut.ensures.value ∙ c.in_ok-firsts.ensures.items-if-clones-equal (λ y h. h)) in
-    let rest = replicated c.deref_mut-2.result.now (channels cs) 0 (c.deref_mut-2.ensures.value ∙ c.in_ok-nexts.ensures.items-if-clones-equal (λ y h. h)) in
+    let heads = replicated c.deref_mut.result.now (length nodes) (channels cs) (c.deref_mut.ensures.value ∙ c.in_ok-firsts.ensures.items_if_clones_equal (λ y h. h)) in
+    let rest = replicated c.deref_mut-2.result.now (channels cs) 0 (c.deref_mut-2.ensures.value ∙ c.in_ok-nexts.ensures.items_if_clones_equal (λ y h. h)) in
     record { few = c.requires.0.1; long = rest.0; tails = λ d h. omega (arith, heads.0, tails_below nodes cs c.requires d h); blank = heads.1 }
 
 pub returns : goal.returns
@@ -17,7 +17,7 @@ returns c =
     let nodes = c.args.nodes.now in
     let cs = c.args.cables.now in
     let heads = replicated c.deref_mut.result.now (length nodes) (channels cs) (c.deref_mut.ensures.value ∙ c.in_ok-firsts.ensures.items_if_clones_equal (λ y h. h)) in
-    let rest = replicated c.deref_mut-2.result.now (channels cs) 0 (c.deref_mut-2.ensures.value ∙ c.in_ok-nexts.ensures.items-if-clones-equal (λ y h. h)) in
+    let rest = replicated c.deref_mut-2.result.now (channels cs) 0 (c.deref_mut-2.ensures.value ∙ c.in_ok-nexts.ensures.items_if_clones_equal (λ y h. h)) in
     let firsts = c.fill_links.new.firsts in
     let nexts = c.fill_links.new.nexts in
     let same = take_at firsts (drop (length firsts) c.in_ok-firsts.firsts.items) c.in_ok-firsts.firsts.len (omega arith) in
