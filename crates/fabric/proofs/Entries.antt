@@ -28,7 +28,7 @@ shifted_more old xs i x p lt is s = record {
             let same = get_or-set_same xs (i - 1) x d (omega (arith, s.long)) in
             let behind = s.kept i d (omega arith) in
             let n : k + 1 ≡ i = omega arith in
-            let x-is = is d in
+            let x_is = is d in
             cc
         | inr ne ↦ get_or-set_other xs (i - 1) k x d ne ∙ s.moved k d (omega arith)
       ];

@@ -1,6 +1,6 @@
 -- The ends of cables as the tails of channels. Assumes nothing.
 use Rattle.std.proofs.Common.{◌≡◌, ℕ, ◌+◌, ◌*◌, ◌/◌, ◌%◌, ◌<◌, Bool, true, false, cond, eqb, ◌⊎◌, List, length, get_or, is_some, Some, None, Option, ap, ◌∙◌, inl, inr, arith, MatchOption}
-use Rattle.std.proofs.lemmas.Bool.{eq-eqb, ne_eqb, cond_true, cond_false, true≢false, false≢true}
+use Rattle.std.proofs.lemmas.Bool.{eq-eqb, ne_eqb, cond-true, cond-false, true≢false, false≢true}
 use Rattle.rack.specs.declared.cable.Cable.{Cable}
 use Rattle.rack.specs.declared.cable.End.{End}
 use Rattle.rack.specs.Network.{none, channels, tail_end, EndsAt, FreeEnd, Leaves}
@@ -9,13 +9,13 @@ use Rattle.rack.specs.Network.{none, channels, tail_end, EndsAt, FreeEnd, Leaves
 pub tail_first : (cables : List Cable) (k : ℕ) → tail_end cables (2 * k) ≡ (get_or cables k none).first
 tail_first cables k =
     let half : 2 * k / 2 ≡ k = omega arith in
-    cond_true (eqb (2 * k % 2) 0) _ _ (eq-eqb (2 * k % 2) 0 (omega arith)) ∙ ap (λ j. (get_or cables j none).first) half
+    cond-true (eqb (2 * k % 2) 0) _ _ (eq-eqb (2 * k % 2) 0 (omega arith)) ∙ ap (λ j. (get_or cables j none).first) half
 
 -- and channel 2k + 1 by the second
 pub tail_second : (cables : List Cable) (k : ℕ) → tail_end cables (2 * k + 1) ≡ (get_or cables k none).second
 tail_second cables k =
     let half : (2 * k + 1) / 2 ≡ k = omega arith in
-    cond_false (eqb ((2 * k + 1) % 2) 0) _ _ (ne_eqb ((2 * k + 1) % 2) 0 (λ e. omega arith)) ∙ ap (λ j. (get_or cables j none).second) half
+    cond-false (eqb ((2 * k + 1) % 2) 0) _ _ (ne_eqb ((2 * k + 1) % 2) 0 (λ e. omega arith)) ∙ ap (λ j. (get_or cables j none).second) half
 
 pub leaves_first : (cables : List Cable) (e : End) (k : ℕ) → k < length cables → (get_or cables k none).first ≡ e → Leaves cables e (2 * k)
 leaves_first cables e k within is = (omega arith, tail_first cables k ∙ is)
