@@ -8,7 +8,7 @@ use Rattle.rack.specs.declared.numbers.Level.{Level as ServiceLevel}
 use Rattle.routing.specs.declared.pair.Pair.{Pair}
 use Rattle.routing.specs.Paths.{Hop, hop}
 use Rattle.routing.proofs.Hops.{some_same}
-use Rattle.check.specs.Plans.{virtual}
+use Rattle.checking.specs.Plans.{virtual}
 use Rattle.courses.specs.Queues.{Queues, at, push}
 use Rattle.fabric.specs.declared.packet.Packet.{Packet}
 use Rattle.fabric.specs.declared.packet.Delivery.{Delivery}

@@ -3,7 +3,7 @@ use Rattle.std.proofs.Common.{◌≡◌, ℕ, zero, suc, ◌+◌, ◌<◌, ◌�
 use Rattle.std.specs.List.{AllByRecursion as All}
 use Rattle.routing.specs.Paths.{Routing, Hop, hop_at}
 use Rattle.routing.proofs.Hops.{some_none, some_same, gone}
-use Rattle.check.specs.Plans.{virtual}
+use Rattle.checking.specs.Plans.{virtual}
 use Rattle.courses.specs.Law.{Next, here, later, ahead, Once}
 use Rattle.courses.proofs.Ways.{ahead_past}
 use Rattle.fabric.specs.Courses.{then_on, hops_on}

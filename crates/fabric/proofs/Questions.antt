@@ -11,8 +11,8 @@ use Rattle.routing.specs.Turns.{turns}
 use Rattle.routing.specs.Paths.{Hop, hop}
 use Rattle.routing.specs.Walks.{Advances}
 use Rattle.routing.proofs.Hops.{some_none, some_same}
-use Rattle.check.specs.Starts.{Ranged}
-use Rattle.check.specs.Plans.{virtual}
+use Rattle.checking.specs.Starts.{Ranged}
+use Rattle.checking.specs.Plans.{virtual}
 use Rattle.courses.specs.Queues.{at}
 use Rattle.fabric.specs.declared.packet.Packet.{Packet}
 use Rattle.fabric.specs.declared.queue.Queue.{Queue}

@@ -12,8 +12,8 @@ use Rattle.routing.specs.Turns.{turns}
 use Rattle.routing.specs.Paths.{Hop, hop, behind, hop_at}
 use Rattle.routing.proofs.Hops.{some_same, came, behind_some}
 use Rattle.routing.proofs.Tests.{turns_below}
-use Rattle.check.specs.Starts.{Ranged}
-use Rattle.check.specs.Plans.{virtual, Sound}
+use Rattle.checking.specs.Starts.{Ranged}
+use Rattle.checking.specs.Plans.{virtual, Sound}
 use Rattle.courses.specs.Queues.{Onward, to, home, Queues, at, push, Forwards as ForwardsThere, Takes as TakesThere, Event, refused, admitted, forwarded, taken, Step, refuses, admits, forwards, takes}
 use Rattle.courses.specs.Law.{OnWay, Placed, Stirs as StirsThere, by_forward, by_take}
 use Rattle.courses.proofs.Sets.{some_queue, each_set, each_push}
@@ -28,7 +28,7 @@ use Rattle.fabric.specs.Packets.{contents, contents_of, next_hop, moved, deliver
 use Rattle.fabric.specs.Calls.{Setup, queue_count, Ready, level_for, PairHere, Admits, Goes_on, Forwards, Takes, Acts}
 use Rattle.fabric.specs.Courses.{event, path, path_of, InPlace, AllInPlace, standing, Stirs}
 use Rattle.fabric.proofs.Hops.{at_place, of_place}
-use Rattle.fabric.proofs.Roads.{channel_of, hop_again, on_hop, rules, starts, leads, pair_starts, out, out_leaves, only_out, HopIs, path_is, low, narrow, last_hop, not_later, leads_home, leads_on}
+use Rattle.fabric.proofs.Roads.{channel_of, hop_again, on_hop, rules, starts, leads, pair_starts, out, out_leaves, only_out, HopIs, path-is, low, narrow, last_hop, not_later, leads_home, leads_on}
 use Rattle.fabric.proofs.Standing.{told_cons, some_at, bounded, unbounded, stand, stand_length, stand_at, stand_past, stand_set, stand_push}
 
 to_none : (o : Option Hop) → on_hop o ≡ home → ⊥
@@ -58,13 +58,13 @@ module _ (s : Setup) (ranged : Ranged s.lanes) (sound : Sound s.routes s.levels 
       let short : j < channel_count s.routes.rack = omega (arith, not_later s ranged sound p pair l.0 l.1 l.2 j h e, l.2.short) in
       let o = out s ranged sound p pair in
       let b = at_place s.routes o p.receiver.0 (level_for s p) 0 (channel_count s.routes.rack) j h (ap (hop_at s.routes o p.receiver.0 (level_for s p)) (zero-add j) ∙ e) short in
-      let is = path_is s ranged sound p pair in
+      let is = path-is s ranged sound p pair in
       (short, omega (arith, b.0, ap length is), ap (λ xs. get_or xs j 0) is ∙ b.1)
 
   place_hop : (p : Pair) (pair : PairHere s p) (j : ℕ) → j < length (path s p) → (h : Hop) × HopIs s ranged sound p pair j h × (get_or (path s p) j 0 ≡ virtual h)
   place_hop p pair j l =
       let o = out s ranged sound p pair in
-      let is = path_is s ranged sound p pair in
+      let is = path-is s ranged sound p pair in
       let b = of_place s.routes o p.receiver.0 (level_for s p) 0 (channel_count s.routes.rack) j (omega (arith, ap length is)) in
       (b.0, ap (hop_at s.routes o p.receiver.0 (level_for s p)) (sym (zero-add j)) ∙ b.1, ap (λ xs. get_or xs j 0) is ∙ b.2)
 

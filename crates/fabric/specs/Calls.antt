@@ -7,8 +7,8 @@ use Rattle.routing.specs.Sources.{enters_switch}
 use Rattle.routing.specs.Turns.{turns}
 use Rattle.routing.specs.Paths.{Routing, Hop, hop, PairOf}
 use Rattle.routing.specs.Walks.{Advances}
-use Rattle.check.specs.Starts.{Ranged}
-use Rattle.check.specs.Plans.{level_at, virtual}
+use Rattle.checking.specs.Starts.{Ranged}
+use Rattle.checking.specs.Plans.{level_at, virtual}
 use Rattle.courses.specs.Queues.{at, push}
 use Rattle.fabric.specs.declared.packet.Packet.{Packet}
 use Rattle.fabric.specs.declared.packet.Delivery.{Delivery}

@@ -6,7 +6,7 @@ use Rattle.rack.specs.Racks.{channel_count, tail}
 use Rattle.routing.specs.declared.pair.Pair.{Pair}
 use Rattle.routing.specs.Sources.{least}
 use Rattle.routing.specs.Paths.{Routing, Hop, hop_at}
-use Rattle.check.specs.Plans.{virtual, Sound}
+use Rattle.checking.specs.Plans.{virtual, Sound}
 use Rattle.courses.specs.Queues.{Queues, at, Event, refused, admitted, forwarded, taken}
 use Rattle.courses.specs.Law.{hops, entered, left, moves, waiting}
 use Rattle.fabric.specs.declared.packet.Packet.{Packet}

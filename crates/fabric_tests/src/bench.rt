@@ -2,9 +2,9 @@
 use crate::racks::{CLOCKWISE, pair, triangle};
 use crate::rows::{Ask, Say, spoken};
 use builder::build::build;
-use check::acceptance::Acceptance;
-use check::check::check as check_plan;
-use check::fault::CheckFault;
+use checking::acceptance::Acceptance;
+use checking::check::check as check_plan;
+use checking::fault::CheckFault;
 use fabric::call::{Answer, Call};
 use fabric::fabric::Fabric;
 use fabric::fabric::close::NotClosed;

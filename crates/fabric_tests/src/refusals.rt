@@ -1,7 +1,7 @@
 // Every refusal of the fabric, with its number, its pair and its hop.
 use crate::bench::{Bench, acceptance, queues};
 use crate::rows::{Ask, Say, tell};
-use check::acceptance::Acceptance;
+use checking::acceptance::Acceptance;
 use fabric::fabric::Fabric;
 use fabric::queue::Queue;
 use std::alloc::Global;

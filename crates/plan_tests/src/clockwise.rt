@@ -3,7 +3,7 @@ use crate::plans::{build_stored, check_stored, check_two_hop};
 use crate::racks::{CLOCKWISE, pair, triangle};
 use crate::tables::{Tables, Work, check_bytes, check_numbers, check_ring, check_words};
 use builder::fault::BuildFault;
-use check::fault::CheckFault;
+use checking::fault::CheckFault;
 use routing::fault::WalkFault;
 use routing::stored::Stored;
 use std::test::*;

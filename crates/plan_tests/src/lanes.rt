@@ -4,7 +4,7 @@ use crate::clockwise::PARTED;
 use crate::plans::{build_stored, check_stored};
 use crate::racks::{CLOCKWISE, pair, triangle};
 use crate::tables::{Tables, Work, check_numbers, check_ring, check_words};
-use check::fault::CheckFault;
+use checking::fault::CheckFault;
 use routing::fault::WalkFault;
 use std::test::*;
 

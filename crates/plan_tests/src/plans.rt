@@ -2,8 +2,8 @@
 use crate::tables::{Tables, Work};
 use builder::build::build;
 use builder::fault::BuildFault;
-use check::check::check as check_plan;
-use check::fault::CheckFault;
+use checking::check::check as check_plan;
+use checking::fault::CheckFault;
 use rack::rack::Rack;
 use routing::map::LaneMap;
 use routing::plan::Plan;

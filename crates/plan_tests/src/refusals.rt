@@ -3,7 +3,7 @@ use crate::plans::{build_stored, check_stored};
 use crate::racks::{CLOCKWISE, pair, triangle};
 use crate::tables::{MARK, Tables, Work, check_bytes};
 use builder::fault::BuildFault;
-use check::fault::CheckFault;
+use checking::fault::CheckFault;
 use rack::rack::Rack;
 use routing::fault::WalkFault;
 use std::alloc::Global;

@@ -12,12 +12,12 @@ use Rattle.routing.proofs.Hops.{some_same, came, hop_more, hop_last, from_first}
 use Rattle.builder.specs.Method.{alone, PathOf, Middle, entry_of, tables}
 use Rattle.builder.specs.Laws.{Rises, EndsKeep0}
 use Rattle.builder.specs.Outcomes.{InRange}
-use Rattle.check.specs.Plans.{level_at, On, FinePair, AllPairs}
-use Rattle.check.specs.Plans as plans
-use Rattle.check.specs.declared.acceptance.Acceptance.{Acceptance}
-use Rattle.check.specs.declared.fault.CheckFault.{CheckFault}
-use Rattle.check.specs.declared.fault.CheckFault.TheVariants.{Lanes, Tables, Level, Walk, Ring, Memory}
-use Rattle.check.specs.Answers.{TablesAt, Starts, Checked, Accepted}
+use Rattle.checking.specs.Plans.{level_at, On, FinePair, AllPairs}
+use Rattle.checking.specs.Plans as plans
+use Rattle.checking.specs.declared.acceptance.Acceptance.{Acceptance}
+use Rattle.checking.specs.declared.fault.CheckFault.{CheckFault}
+use Rattle.checking.specs.declared.fault.CheckFault.TheVariants.{Lanes, Tables, Level, Walk, Ring, Memory}
+use Rattle.checking.specs.Answers.{TablesAt, Starts, Checked, Accepted}
 use Rattle.planning.specs.Plans.{OnlyShort}
 
 module _ (r : Rack) (route : ℕ → ℕ → Option ℕ) (lanes levels : List ℕ) where

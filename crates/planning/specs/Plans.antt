@@ -1,11 +1,11 @@
 -- What is promised of a plan that is built and checked. Assumes nothing.
 use Rattle.std.specs.Prelude.{◌≡◌, ℕ, List, length, Ok, Err, Option, Result}
 use Rattle.rack.specs.declared.rack.Rack.{Rack}
-use Rattle.check.specs.declared.fault.CheckFault.{CheckFault}
-use Rattle.check.specs.declared.fault.CheckFault.TheVariants.{Lanes, Tables, Level, Walk, Ring, Memory}
-use Rattle.check.specs.Starts.{Long}
-use Rattle.check.specs.declared.acceptance.Acceptance.{Acceptance}
-use Rattle.check.specs.Answers.{TablesAt, Checked}
+use Rattle.checking.specs.declared.fault.CheckFault.{CheckFault}
+use Rattle.checking.specs.declared.fault.CheckFault.TheVariants.{Lanes, Tables, Level, Walk, Ring, Memory}
+use Rattle.checking.specs.Starts.{Long}
+use Rattle.checking.specs.declared.acceptance.Acceptance.{Acceptance}
+use Rattle.checking.specs.Answers.{TablesAt, Checked}
 use Rattle.routing.specs.Turns.{stored_lane}
 use Rattle.routing.specs.Paths.{Routing, routing}
 use Rattle.builder.specs.Method.{Tables as BuiltTables}

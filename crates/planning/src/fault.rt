@@ -3,7 +3,7 @@ ghost use Rattle.std.specs.Prelude.{◌≡◌};
 ghost use Rattle.planning.specs.declared.fault.PlanFault.TheVariants.{Build, Check};
 
 use builder::fault::BuildFault;
-use check::fault::CheckFault;
+use checking::fault::CheckFault;
 
 #[derive(Clone, Copy, PartialEq, Eq, Debug)]
 pub enum PlanFault {

@@ -1,6 +1,6 @@
 // Builds a plan over a source, and checks it.
 ghost use Rattle.std.specs.Prelude.{◌≡◌, length, IfErr};
-ghost use Rattle.check.specs.Answers.{tables_at, Checked};
+ghost use Rattle.checking.specs.Answers.{tables_at, Checked};
 ghost use Rattle.builder.specs.Laws.{Rises, EndsKeep0};
 ghost use Rattle.builder.specs.Method.{tables};
 ghost use Rattle.builder.specs.Outcomes.{InRange};
@@ -8,9 +8,9 @@ ghost use Rattle.planning.specs.Plans.{planned, OnlyShort, Planned};
 
 use crate::fault::PlanFault;
 use builder::build::build;
-use check::acceptance::Acceptance;
-use check::check::check;
-use check::fault::CheckFault;
+use checking::acceptance::Acceptance;
+use checking::check::check;
+use checking::fault::CheckFault;
 use rack::rack::Rack;
 use routing::plan::Plan;
 use routing::rows::StoredRows;

@@ -8,7 +8,7 @@ use Rattle.routing.specs.declared.walk.Step.{Step}
 use Rattle.routing.specs.Paths.{Routing, PairOf, OnPath, EndsAtHop, Delivered}
 use Rattle.routing.specs.Walks.{Walked, WalkStops}
 use Rattle.routing.proofs.Determined.{stopped_undelivered}
-use Rattle.check.specs.Plans.{level_at, FinePair}
+use Rattle.checking.specs.Plans.{level_at, FinePair}
 use Rattle.report.specs.Text.{pair_line}
 use Rattle.report.specs.Lines.{LineOf}
 

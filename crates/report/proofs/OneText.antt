@@ -15,7 +15,7 @@ use Rattle.ranking.proofs.Chains.{one_rank, rank_same}
 use Rattle.routing.specs.Turns.{stored_lane, lane_bytes}
 use Rattle.routing.specs.Paths.{Routing, PairOf, OnPath, EndsAtHop}
 use Rattle.routing.proofs.Hops.{some_same, hop_last, from_first}
-use Rattle.check.specs.Plans.{level_at, Follows}
+use Rattle.checking.specs.Plans.{level_at, Follows}
 use Rattle.builder.specs.declared.fault.BuildFault.{BuildFault}
 use Rattle.builder.specs.declared.fault.BuildFault.TheVariants.{Lanes, Tables as Short, Walk, Lane, Level, Memory as Unbuilt}
 use Rattle.builder.specs.Method.{Tables, tables, blank, PairBuilt, Taken, Receivers, Senders, Built}

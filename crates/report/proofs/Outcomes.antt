@@ -11,11 +11,11 @@ use Rattle.rack.specs.Network.{KeepsRules}
 use Rattle.rack.specs.Racks.{nodes_of, cables_of, node_count, channel_count, Refuses}
 use Rattle.reading.specs.Rules.{Answers}
 use Rattle.routing.specs.Turns.{lane_bytes}
-use Rattle.check.specs.declared.acceptance.Acceptance.{Acceptance}
-use Rattle.check.specs.declared.fault.CheckFault.TheVariants.{Lanes, Tables, Level, Walk, Ring, Memory}
-use Rattle.check.specs.Plans.{AllPairs}
-use Rattle.check.specs.Starts.{Long}
-use Rattle.check.specs.Answers.{TablesAt}
+use Rattle.checking.specs.declared.acceptance.Acceptance.{Acceptance}
+use Rattle.checking.specs.declared.fault.CheckFault.TheVariants.{Lanes, Tables, Level, Walk, Ring, Memory}
+use Rattle.checking.specs.Plans.{AllPairs}
+use Rattle.checking.specs.Starts.{Long}
+use Rattle.checking.specs.Answers.{TablesAt}
 use Rattle.builder.specs.declared.fault.BuildFault.{BuildFault}
 use Rattle.builder.specs.declared.fault.BuildFault.TheVariants.{Lanes as NoLanes, Tables as Short, Walk as NoPath, Lane as NoLane, Level as NoLevel, Memory as Unbuilt}
 use Rattle.builder.specs.Method.{Tables as BuiltTables, tables, Built}

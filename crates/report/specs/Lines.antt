@@ -2,7 +2,7 @@
 use Rattle.std.specs.Prelude.{◌≡◌, ℕ, zero, suc, ◌+◌, ◌⊎◌, List, [], ◌++◌}
 use Rattle.rack.specs.Racks.{node_count}
 use Rattle.routing.specs.Paths.{Routing, PairOf, EndsAtHop}
-use Rattle.check.specs.Plans.{level_at}
+use Rattle.checking.specs.Plans.{level_at}
 use Rattle.report.specs.Text.{pair_line}
 
 -- a text that P holds of was put at the end

@@ -6,7 +6,7 @@ use Rattle.routing.specs.declared.pair.Pair.{Pair}
 use Rattle.routing.specs.declared.fault.WalkFault.{WalkFault}
 use Rattle.routing.specs.Faults.{walk_refusal, distance_refusal}
 use Rattle.builder.specs.Faults.{build_refusal}
-use Rattle.check.specs.Faults.{check_refusal}
+use Rattle.checking.specs.Faults.{check_refusal}
 use Rattle.planning.specs.declared.fault.PlanFault.{PlanFault}
 use Rattle.planning.specs.declared.fault.PlanFault.TheVariants.{Build as Unbuilt, Check as Unchecked}
 use Rattle.report.specs.declared.refusal.Refusal.{Refusal}

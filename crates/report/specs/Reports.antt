@@ -9,7 +9,7 @@ use Rattle.reading.specs.Rules.{Answers}
 use Rattle.ranking.specs.Graphs.{Ranked}
 use Rattle.routing.specs.Sources.{stored_route, downhill_route}
 use Rattle.routing.specs.Ways.{Distances}
-use Rattle.check.specs.Plans.{Follows, Sound}
+use Rattle.checking.specs.Plans.{Follows, Sound}
 use Rattle.builder.specs.declared.fault.BuildFault.{BuildFault}
 use Rattle.builder.specs.Method.{tables, Built}
 use Rattle.builder.specs.Outcomes.{FirstLacks}

@@ -2,12 +2,12 @@
 ghost use Rattle.std.specs.Prelude.{◌≡◌, ◌≤◌, vec_capacity, string_bytes, Decides, MatchResult};
 ghost use Rattle.rack.specs.Racks.{node_count, channel_count};
 ghost use Rattle.routing.specs.Paths.{routing, PairOf};
-ghost use Rattle.check.specs.Plans.{FinePair, AllPairs};
+ghost use Rattle.checking.specs.Plans.{FinePair, AllPairs};
 ghost use Rattle.report.specs.Lines.{Adds, LineOf, ReceiversPrinted, AllPrinted};
 
 use crate::lines::pair_line;
 use crate::refusal::Refusal;
-use check::fault::CheckFault;
+use checking::fault::CheckFault;
 use rack::numbers::Node;
 use rack::rack::Rack;
 use routing::map::LaneMap;

@@ -4,7 +4,7 @@ ghost use Rattle.report.specs.Refusals.{plainly, of_record, of_hop, of_walk, of_
 ghost use Rattle.report.specs.declared.refusal.Refusal.TheVariants.{File, Rack, Distance, Memory};
 
 use builder::fault::BuildFault;
-use check::fault::CheckFault;
+use checking::fault::CheckFault;
 use planning::fault::PlanFault;
 use rack::fault::RackFault;
 use reading::fault::FileFault;

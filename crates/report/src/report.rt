@@ -2,8 +2,8 @@
 ghost use Rattle.std.specs.Prelude.{◌≡◌, ◌*◌, ◌<◌, length, IfOk, string_bytes, Decides, MatchResult};
 ghost use Rattle.rack.specs.Racks.{node_count, channel_count};
 ghost use Rattle.routing.specs.Turns.{lane_bytes};
-ghost use Rattle.check.specs.Starts.{Long};
-ghost use Rattle.check.specs.Plans.{AllPairs};
+ghost use Rattle.checking.specs.Starts.{Long};
+ghost use Rattle.checking.specs.Plans.{AllPairs};
 ghost use Rattle.planning.specs.Plans.{planned};
 ghost use Rattle.report.specs.Lines.{Adds, AllPrinted};
 ghost use Rattle.report.specs.Text.{accepted_line};

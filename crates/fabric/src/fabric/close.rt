@@ -1,7 +1,7 @@
 // Closing a fabric.
 ghost use Rattle.std.specs.Prelude.{◌≡◌, ◌*◌, ◌≤◌, length, MatchResult};
 ghost use Rattle.rack.specs.Racks.{channel_count};
-ghost use Rattle.check.specs.Starts.{Ranged};
+ghost use Rattle.checking.specs.Starts.{Ranged};
 ghost use Rattle.fabric.specs.Calls.{Enough, NotReady, waiting_count};
 
 use crate::fabric::Fabric;

@@ -1,6 +1,6 @@
 // What every call on a fabric asks first.
 ghost use Rattle.std.specs.Prelude.{◌≡◌, ◌≤◌, length, MatchResult};
-ghost use Rattle.check.specs.Starts.{Ranged};
+ghost use Rattle.checking.specs.Starts.{Ranged};
 ghost use Rattle.fabric.specs.Calls.{Enough, NotReady};
 
 use crate::fabric::Fabric;

@@ -1,14 +1,14 @@
 // Opening a fabric.
 ghost use Rattle.std.specs.Prelude.{◌≡◌, ◌*◌, ◌≤◌, length, MatchResult};
 ghost use Rattle.rack.specs.Racks.{channel_count};
-ghost use Rattle.check.specs.Starts.{Ranged};
+ghost use Rattle.checking.specs.Starts.{Ranged};
 ghost use Rattle.fabric.specs.Calls.{Enough, OpenRefused, Emptied};
 
 use crate::fabric::Fabric;
 use crate::fabric::given::ready;
 use crate::fault::FabricFault;
 use crate::queue::Queue;
-use check::acceptance::Acceptance;
+use checking::acceptance::Acceptance;
 use rack::rack::Rack;
 use routing::plan::Plan;
 

@@ -36,12 +36,12 @@ loop-u-preserved g c =
     let u = c.loop-u.u in
     elim c.if-is_host.branch [
       | then-is_host+in_ok-build_sender w ↦
-          rw (w.lanes-is, w.levels-is, w.path_is) (
+          rw (w.lanes-is, w.levels-is, w.path-is) (
             senders_more r route c.args.lane_count u (blank r) here (tables w.build_sender.new.lanes w.build_sender.new.levels) c.loop-u.invariant.0 w.in_ok-build_sender.ensures.answer,
             w.build_sender.ensures.room,
           )
       | else-is_host w ↦
-          rw (w.lanes-is, w.levels-is, w.path_is) (
+          rw (w.lanes-is, w.levels-is, w.path-is) (
             senders_more r route c.args.lane_count u (blank r) here here c.loop-u.invariant.0 (receivers_none r route c.args.lane_count u (node_count r) here (λ host. both_ways c.is_host.result w.if-is_host.false (c.is_host.ensures.1 host))),
             c.loop-u.invariant.1,
           )

@@ -43,12 +43,12 @@ loop-v-preserved g c =
     let v = c.loop-v.v in
     elim c.if-v-sender.branch [
       | then-v-sender+then-is_host+in_ok-build_pair w ↦
-          rw (w.lanes-is, w.levels-is, w.path_is) (
+          rw (w.lanes-is, w.levels-is, w.path-is) (
             receivers_more r route c.args.lane_count u v was here (tables w.build_pair.new.lanes w.build_pair.new.levels) c.loop-v.invariant.0 (inl ((c.requires.host, w.is_host.ensures.0 w.if-is_host.true, λ e. w.if-v-sender.true (sym e)), w.in_ok-build_pair.ensures.answer)),
             w.build_pair.ensures.room,
           )
       | else-v-sender w ↦
-          rw (w.lanes-is, w.levels-is, w.path_is) (
+          rw (w.lanes-is, w.levels-is, w.path-is) (
             receivers_more r route c.args.lane_count u v was here here c.loop-v.invariant.0 (inr (
               λ p. elim w.else-v-sender.branch [
                 | else-v-sender-via-then-v-sender+else-is_host x ↦ both_ways x.is_host.result x.if-is_host.false (x.is_host.ensures.1 p.1)

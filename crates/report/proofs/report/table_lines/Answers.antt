@@ -1,6 +1,6 @@
 use Rattle.std.proofs.Common.{string_bytes, ap, subst, inl, arith}
 use Rattle.std.proofs.lemmas.Result.{err_from_is_err_and, MatchResult-weaker}
-use Rattle.check.specs.Answers.{tables_at}
+use Rattle.checking.specs.Answers.{tables_at}
 use Rattle.builder.specs.Method.{tables}
 use Rattle.planning.specs.Plans.{planned}
 use Rattle.report.specs.Text.{accepted_line}

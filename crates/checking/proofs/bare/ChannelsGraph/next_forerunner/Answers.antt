@@ -1,0 +1,36 @@
+use Rattle.std.proofs.Common.{◌≡◌, sym, ap, ◌∙◌, arith}
+use borrow.Author.Tests.{both_ways}
+use Rattle.rack.specs.Racks.{head, tail, Leaving, Entering}
+use Rattle.checking.specs.Words.{ChannelFollowedBy}
+use Rattle.checking.proofs.Scans.{go_below, go_passed, go_end}
+use Rattle.checking.proofs.bare.ChannelsGraph.next_forerunner.Goals as goal
+
+pub returns-then-is_marked : goal.returns-then-is_marked
+returns-then-is_marked c =
+    let r = c.args.self.now.rack.now in
+    let table = c.args.self.now.dependencies.now in
+    let y = c.args.y in
+    let w = c.in-Some.ends.tail.node.0 in
+    let at : c.in-Some.ends.tail.node.0 ≡ tail r y = ap (λ e. e.node.0) c.in-Some.ensures.1 in
+    let told = c.in-Some-next_entering.ensures in
+    let marked = c.is_marked.ensures.0 c.if-is_marked.true in
+    (omega arith, (told.1.0, c.requires, sym (told.1.1 ∙ at), marked.1), λ z l u. go_below (λ d. ChannelFollowedBy r table d y) (Entering r w) c.args.from (λ d f. (f.0, sym f.2 ∙ sym at)) c.loop-arriving.next.0 c.in-Some-next_entering.arriving.0 c.loop-arriving.invariant.0 told.2 z l u)
+
+pub loop-arriving-preserved : goal.loop-arriving-preserved
+loop-arriving-preserved c =
+    let r = c.args.self.now.rack.now in
+    let table = c.args.self.now.dependencies.now in
+    let y = c.args.y in
+    let w = c.in-Some.ends.tail.node.0 in
+    let at : c.in-Some.ends.tail.node.0 ≡ tail r y = ap (λ e. e.node.0) c.in-Some.ensures.1 in
+    let told = c.in-Some-next_entering.ensures in
+    (go_passed (λ d. ChannelFollowedBy r table d y) (Entering r w) c.args.from (λ d f. (f.0, sym f.2 ∙ sym at)) c.loop-arriving.next.0 c.in-Some-next_entering.arriving.0 c.loop-arriving.invariant.0 told.2 (λ f. both_ways c.is_marked.result c.if-is_marked.false (c.is_marked.ensures.1 (f.1, f.3))), omega arith)
+
+pub returns : goal.returns
+returns c =
+    let r = c.args.self.now.rack.now in
+    let table = c.args.self.now.dependencies.now in
+    let y = c.args.y in
+    let w = c.in-Some.ends.tail.node.0 in
+    let at : c.in-Some.ends.tail.node.0 ≡ tail r y = ap (λ e. e.node.0) c.in-Some.ensures.1 in
+    go_end (λ d. ChannelFollowedBy r table d y) (Entering r w) c.args.from (λ d f. (f.0, sym f.2 ∙ sym at)) c.loop-arriving.next.0 c.loop-arriving.invariant.0 (λ e l o. c.in_default-next_entering.ensures e l o)

@@ -1,0 +1,20 @@
+-- What is told of each refusal of the check: its number and its values. Assumes nothing.
+use Rattle.std.specs.Prelude.{ℕ, Some, None, Option}
+use Rattle.routing.specs.declared.pair.Pair.{Pair}
+use Rattle.routing.specs.declared.fault.WalkFault.{WalkFault}
+use Rattle.checking.specs.declared.fault.CheckFault.{CheckFault}
+use Rattle.checking.specs.declared.fault.CheckFault.TheVariants.{Lanes, Tables, Level, Walk, Ring, Memory}
+
+-- what is told of a refusal: its number, if it is the check's own and has one, the pair that it is about, if it is about one, or the fault of a walk, handed up as it is
+pub record Refusal : Type 0 where
+  pub number : Option ℕ
+  pub about : Option Pair
+  pub walk : Option WalkFault
+
+abbrev pub check_refusal : CheckFault → Refusal
+check_refusal Lanes = record { number = Some 10; about = None; walk = None }
+check_refusal Tables = record { number = Some 9; about = None; walk = None }
+check_refusal (Level p) = record { number = Some 26; about = Some p; walk = None }
+check_refusal (Walk f) = record { number = None; about = None; walk = Some f }
+check_refusal (Ring n) = record { number = Some 25; about = None; walk = None }
+check_refusal Memory = record { number = None; about = None; walk = None }
