@@ -39,11 +39,11 @@ loop-v-preserved g c =
     elim c.if-is_pair.branch [
       | then-is_pair+in_ok-line+in_ok-push_str w ↦
           let line = string_bytes w.in_ok-line.line in
-          let pushed : string_bytes c.if-is_pair.out ≡ y ++ line = ap string_bytes w.out_is ∙ w.in_ok-push_str.ensures.bytes ∙ ap (λ (t : List ℕ). y ++ t) w.deref.ensures in
+          let pushed : string_bytes c.if-is_pair.out ≡ y ++ line = ap string_bytes w.out-is ∙ w.in_ok-push_str.ensures.bytes ∙ ap (λ (t : List ℕ). y ++ t) w.deref.ensures in
           (receivers_more R levels u v x y (string_bytes c.if-is_pair.out) c.loop-v.invariant.0 (line, inl (c.is_pair.ensures.0 w.if-is_pair.true, w.in_ok-line.ensures.answer), pushed), rw w.path-is w.line_of.ensures.room)
       | else-is_pair w ↦
           let none : PairOf R.rack u v → ⊥ = λ p. both_ways c.is_pair.result w.if-is_pair.false (c.is_pair.ensures.1 p) in
-          (receivers_more R levels u v x y (string_bytes c.if-is_pair.out) c.loop-v.invariant.0 (subst (λ (o : List ℕ). Adds (Printed R levels u v) y o) (ap string_bytes (sym w.out_is)) (nothing_printed R levels u v y none)), rw w.path-is c.loop-v.invariant.1)
+          (receivers_more R levels u v x y (string_bytes c.if-is_pair.out) c.loop-v.invariant.0 (subst (λ (o : List ℕ). Adds (Printed R levels u v) y o) (ap string_bytes (sym w.out-is)) (nothing_printed R levels u v y none)), rw w.path-is c.loop-v.invariant.1)
     ]
 
 pub returns : goal.returns
