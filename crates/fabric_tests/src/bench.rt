@@ -201,13 +201,14 @@ impl Bench {
     // Goes through a table, and compares what is answered at each row.
     pub fn rows(
         &mut self,
+        rt: &impl Abort,
         fabric: &Fabric,
         queues: &mut Vec<Queue>,
         rows: &[(Ask, Say)],
     ) -> Result<(), Fail> {
         for (k, row) in rows.iter().enumerate() {
             let said = self.answer(fabric, queues, row.0);
-            assert!(said == row.1, "row {k}");
+            assert!(rt; said == row.1, "row {k}");
         }
         Ok(())
     }
@@ -225,10 +226,16 @@ impl Bench {
     }
 
     // The same where so many packets should still wait.
-    pub fn closed(&self, fabric: Fabric, queues: &Vec<Queue>, waiting: usize) -> Result<(), Fail> {
+    pub fn closed(
+        &self,
+        rt: &impl Abort,
+        fabric: Fabric,
+        queues: &Vec<Queue>,
+        waiting: usize,
+    ) -> Result<(), Fail> {
         match self.close(fabric, queues) {
             Ok(count) => {
-                assert!(count == waiting);
+                assert!(rt; count == waiting);
                 Ok(())
             },
             Err(_) => Err(Fail::new("not closed")),
@@ -238,6 +245,7 @@ impl Bench {
     // Opens a fabric, goes through a table and closes the fabric, where so many packets should still wait.
     pub fn course(
         &mut self,
+        rt: &impl Abort,
         heap: Global,
         acceptance: Acceptance,
         depth: u8,
@@ -246,8 +254,8 @@ impl Bench {
     ) -> Result<(), Fail> {
         let mut queues = queues(heap, 96)?;
         let fabric = self.opened(acceptance, depth, &mut queues)?;
-        self.rows(&fabric, &mut queues, rows)?;
-        self.closed(fabric, &queues, waiting)
+        self.rows(rt, &fabric, &mut queues, rows)?;
+        self.closed(rt, fabric, &queues, waiting)
     }
 }
 

@@ -161,5 +161,5 @@ fn filled_and_drained(rt: HostRuntime) -> Result<(), Fail> {
     let mut queues = queues(heap, 96)?;
     let fabric = bench.opened(acceptance(&rt, heap)?, 8, &mut queues)?;
     through(&rt, heap, &bench, &fabric, &mut queues)?;
-    bench.closed(fabric, &queues, 0)
+    bench.closed(&rt, fabric, &queues, 0)
 }

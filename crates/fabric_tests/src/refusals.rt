@@ -55,7 +55,7 @@ const CALLS: [(Ask, Say); 36] = [
 fn of_calls(rt: HostRuntime) -> Result<(), Fail> {
     let heap = rt.alloc();
     let mut bench = Bench::two_lanes(heap, 36)?;
-    bench.course(heap, acceptance(&rt, heap)?, 1, &CALLS, 3)
+    bench.course(&rt, heap, acceptance(&rt, heap)?, 1, &CALLS, 3)
 }
 
 // The source or the map is wrong at the next hop of a packet from 0 to 2.
@@ -90,7 +90,7 @@ const NEXT_HOPS: [(Ask, Say); 20] = [
 fn of_next_hops(rt: HostRuntime) -> Result<(), Fail> {
     let heap = rt.alloc();
     let mut bench = Bench::two_lanes(heap, 36)?;
-    bench.course(heap, acceptance(&rt, heap)?, 1, &NEXT_HOPS, 1)
+    bench.course(&rt, heap, acceptance(&rt, heap)?, 1, &NEXT_HOPS, 1)
 }
 
 // Lane count, places of the path table and of the queues, and the number of the refusal: the lane count is told first.
@@ -140,7 +140,7 @@ fn not_started(
         (Ask::Forward(65535), told),
         (Ask::Take(0), told),
     ];
-    bench.rows(&fabric, &mut queues, &rows)?;
+    bench.rows(rt, &fabric, &mut queues, &rows)?;
     match bench.close(fabric, &queues) {
         Ok(_) => Err(Fail::new("closed")),
         Err(not) => {
@@ -179,5 +179,5 @@ fn of_tables(rt: HostRuntime) -> Result<(), Fail> {
     let bench = Bench::two_lanes(heap, 36)?;
     let mut queues = queues(heap, 96)?;
     let fabric = none_started(&rt, heap, bench.opened(token, 8, &mut queues)?)?;
-    bench.closed(fabric, &queues, 0)
+    bench.closed(&rt, fabric, &queues, 0)
 }

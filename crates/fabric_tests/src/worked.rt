@@ -21,7 +21,7 @@ const PASSAGE: [(Ask, Say); 6] = [
 fn one_packet(rt: HostRuntime) -> Result<(), Fail> {
     let heap = rt.alloc();
     let mut bench = Bench::two_lanes(heap, 36)?;
-    bench.course(heap, acceptance(&rt, heap)?, 1, &PASSAGE, 0)
+    bench.course(&rt, heap, acceptance(&rt, heap)?, 1, &PASSAGE, 0)
 }
 
 // With one lane: three packets, each forwarded once. Then each waits for the queue of the next, and none is at its receiver.
@@ -49,7 +49,7 @@ fn jammed(rt: HostRuntime) -> Result<(), Fail> {
         Ok(_) => return Err(Fail::new("accepted")),
         Err(fault) => assert!(rt; fault.number() == Some(25)),
     }
-    bench.course(heap, acceptance(&rt, heap)?, 1, &JAM, 3)
+    bench.course(&rt, heap, acceptance(&rt, heap)?, 1, &JAM, 3)
 }
 
 // Two packets in queue 16.
@@ -77,7 +77,7 @@ fn two_in_each(
     queues: &mut Vec<Queue>,
 ) -> Result<(), Fail> {
     let fabric = bench.opened(acceptance(rt, heap)?, 2, queues)?;
-    bench.rows(&fabric, queues, &TWO_WAIT)?;
+    bench.rows(rt, &fabric, queues, &TWO_WAIT)?;
     if 16 < queues.len() {
         let queue = queues[16];
         queues.fill(queue);
@@ -105,8 +105,8 @@ fn beside_others(
     queues: &mut Vec<Queue>,
 ) -> Result<(), Fail> {
     let fabric = bench.opened(acceptance(rt, heap)?, 8, queues)?;
-    bench.rows(&fabric, queues, &ALONG)?;
-    bench.closed(fabric, queues, 0)
+    bench.rows(rt, &fabric, queues, &ALONG)?;
+    bench.closed(rt, fabric, queues, 0)
 }
 
 // Tables that are longer than needed: the queues beyond those of the rack keep what they hold, and do not count.

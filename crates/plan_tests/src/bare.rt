@@ -30,7 +30,7 @@ fn check_switch_ring(rt: &impl Abort, rack: &Rack, dependencies: &[u64]) -> Resu
         Err(CheckFault::Ring { length: 3 })
     );
     check_ring(rt, &ring, [6, 8, 10])?;
-    check_numbers(&ranks, 12, &[])
+    check_numbers(rt, &ranks, 12, &[])
 }
 
 // Channels know no lanes: the ring is there under one lane and under the two that part it.
@@ -69,6 +69,7 @@ fn ranks_of_channels(rt: HostRuntime) -> Result<(), Fail> {
         Ok(4)
     );
     check_numbers(
+        &rt,
         &ranks,
         14,
         &[
@@ -84,7 +85,7 @@ fn ranks_of_channels(rt: HostRuntime) -> Result<(), Fail> {
             (13, 1),
         ],
     )?;
-    check_numbers(&ring, 0, &[])
+    check_numbers(&rt, &ring, 0, &[])
 }
 
 // A word at a host counts too: 0 enters switch 3, 1 goes back to host 0, and 0 leaves it.
@@ -102,7 +103,7 @@ fn ring_through_a_host(rt: HostRuntime) -> Result<(), Fail> {
     let told = (at(&ring, 0), at(&ring, 1));
     assert!(rt; told == (0, 1) || told == (1, 0));
     assert_eq!(rt; at(&ring, 2), 9);
-    check_numbers(&ranks, 12, &[])
+    check_numbers(&rt, &ranks, 12, &[])
 }
 
 // A table one place short is refused, and nothing is written.
@@ -116,7 +117,7 @@ fn short(rt: HostRuntime) -> Result<(), Fail> {
             check_channels(&rack, &work.dependencies, &mut work.ranks, &mut work.ring),
             Err(CheckFault::Tables)
         );
-        work.check_untouched()?;
+        work.check_untouched(&rt)?;
     }
     Ok(())
 }

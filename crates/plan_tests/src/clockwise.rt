@@ -33,8 +33,9 @@ fn one_lane(rt: HostRuntime) -> Result<(), Fail> {
         Err(CheckFault::Ring { length: 3 })
     );
     check_ring(&rt, &work.ring, [48, 64, 80])?;
-    check_numbers(&work.ranks, 96, &[])?;
+    check_numbers(&rt, &work.ranks, 96, &[])?;
     check_words(
+        &rt,
         &work.dependencies,
         432,
         &[
@@ -68,9 +69,10 @@ fn built_with_two_lanes(rt: HostRuntime) -> Result<(), Fail> {
         check_stored(heap, &rack, &CLOCKWISE, &tables, 2, &mut work),
         Ok(3)
     );
-    check_words(&work.dependencies, 432, &PARTED)?;
+    check_words(&rt, &work.dependencies, 432, &PARTED)?;
     // 6, 8 and 10 on lane 0 are second, on lane 1 third, and the channels to the hosts last
     check_numbers(
+        &rt,
         &work.ranks,
         96,
         &[
@@ -85,7 +87,7 @@ fn built_with_two_lanes(rt: HostRuntime) -> Result<(), Fail> {
             (81, 2),
         ],
     )?;
-    check_numbers(&work.ring, 0, &[])
+    check_numbers(&rt, &work.ring, 0, &[])
 }
 
 // With one lane there is none for the path from 0 to 2, and both tables are cleared.
@@ -120,12 +122,13 @@ fn raised_once(rt: HostRuntime) -> Result<(), Fail> {
             hop: 2,
         }))
     );
-    work.check_untouched()?;
+    work.check_untouched(&rt)?;
     assert_eq!(rt;
         check_two_hop(heap, &rack, &source, &levels, 2, &mut work),
         Ok(3)
     );
     check_words(
+        &rt,
         &work.dependencies,
         432,
         &[
@@ -140,5 +143,5 @@ fn raised_once(rt: HostRuntime) -> Result<(), Fail> {
             (361, 2),
         ],
     )?;
-    check_numbers(&work.ring, 0, &[])
+    check_numbers(&rt, &work.ring, 0, &[])
 }

@@ -24,14 +24,15 @@ fn ring_through_a_fall(rt: HostRuntime) -> Result<(), Fail> {
             hop: 2,
         }))
     );
-    work.check_untouched()?;
+    work.check_untouched(&rt)?;
     assert_eq!(rt;
         check_stored(heap, &rack, &CLOCKWISE, &tables, 3, &mut work),
         Err(CheckFault::Ring { length: 3 })
     );
     check_ring(&rt, &work.ring, [48, 66, 80])?;
-    check_numbers(&work.ranks, 96, &[])?;
+    check_numbers(&rt, &work.ranks, 96, &[])?;
     check_words(
+        &rt,
         &work.dependencies,
         432,
         &[
@@ -61,11 +62,12 @@ fn fall_beside_the_ring(rt: HostRuntime) -> Result<(), Fail> {
         Ok(5)
     );
     check_numbers(
+        &rt,
         &work.ranks,
         96,
         &[(8, 3), (24, 4), (40, 5), (48, 3), (64, 1), (66, 4), (80, 2)],
     )?;
-    check_numbers(&work.ring, 0, &[])
+    check_numbers(&rt, &work.ring, 0, &[])
 }
 
 // Lanes that rise from switch to switch are accepted, and so are lanes that fall, as long as there is no ring.
@@ -86,7 +88,7 @@ fn rising_and_falling(rt: HostRuntime) -> Result<(), Fail> {
             check_stored(heap, &rack, &CLOCKWISE, &tables, 3, &mut work),
             Ok(3)
         );
-        check_numbers(&work.ring, 0, &[])?;
+        check_numbers(&rt, &work.ring, 0, &[])?;
     }
     Ok(())
 }
@@ -109,7 +111,7 @@ fn level_of_no_pair(rt: HostRuntime) -> Result<(), Fail> {
         check_stored(heap, &rack, &CLOCKWISE, &tables, 2, &mut work),
         Ok(3)
     );
-    check_words(&work.dependencies, 432, &PARTED)?;
+    check_words(&rt, &work.dependencies, 432, &PARTED)?;
     tables.set_level(2, 5);
     assert_eq!(rt;
         check_stored(heap, &rack, &CLOCKWISE, &tables, 2, &mut work),

@@ -51,7 +51,7 @@ fn second_level(rt: HostRuntime) -> Result<(), Fail> {
         check_rows(heap, &rack, &source, &tables, 3, &mut work),
         Ok(4)
     );
-    check_numbers(&work.ring, 0, &[])
+    check_numbers(&rt, &work.ring, 0, &[])
 }
 
 // With the ends of the cables the other way round the levels are the same, and the lanes stand in the rows of the ways back.
@@ -158,6 +158,6 @@ fn raised_once(rt: HostRuntime) -> Result<(), Fail> {
         check_two_hop(heap, &rack, &source, &levels, 2, &mut work),
         Ok(4)
     );
-    check_words(&work.dependencies, 504, &RAISED_ONCE)?;
-    check_numbers(&work.ring, 0, &[])
+    check_words(&rt, &work.dependencies, 504, &RAISED_ONCE)?;
+    check_numbers(&rt, &work.ring, 0, &[])
 }

@@ -33,7 +33,7 @@ fn check_walk(
         check_stored(heap, rack, forwarding, &zero, 1, &mut work),
         Err(CheckFault::Walk(fault))
     );
-    work.check_untouched()?;
+    work.check_untouched(rt)?;
     let mut tables = Tables::marked(heap, rack)?;
     assert_eq!(rt;
         build_stored(heap, rack, forwarding, 2, &mut tables),
@@ -79,7 +79,7 @@ fn lane_counts(rt: HostRuntime) -> Result<(), Fail> {
             check_stored(heap, &rack, &CLOCKWISE, &tables, count, &mut work),
             Err(CheckFault::Lanes)
         );
-        work.check_untouched()?;
+        work.check_untouched(&rt)?;
         assert_eq!(rt;
             build_stored(heap, &rack, &CLOCKWISE, count, &mut tables),
             Err(BuildFault::Lanes)
@@ -108,7 +108,7 @@ fn short_for_the_check(rt: HostRuntime) -> Result<(), Fail> {
             check_stored(heap, &rack, &CLOCKWISE, &tables, 1, &mut work),
             Err(CheckFault::Tables)
         );
-        work.check_untouched()?;
+        work.check_untouched(&rt)?;
     }
     Ok(())
 }
@@ -147,7 +147,7 @@ fn levels(rt: HostRuntime) -> Result<(), Fail> {
             check_stored(heap, &rack, &CLOCKWISE, &tables, 2, &mut work),
             Err(CheckFault::Level { pair: pair(1, 0) })
         );
-        work.check_untouched()?;
+        work.check_untouched(&rt)?;
     }
     tables.set_level(6, 15);
     assert_eq!(rt;

@@ -23,9 +23,9 @@ fn check_pairless(
     check_bytes(rt, &tables.levels, nodes * nodes, &[])?;
     let mut work = Work::marked(heap, rack)?;
     assert_eq!(rt; check_stored(heap, rack, &[], &tables, 1, &mut work), Ok(0));
-    check_words(&work.dependencies, 36 * channels, &[])?;
-    check_numbers(&work.ranks, 8 * channels, &[])?;
-    check_numbers(&work.ring, 0, &[])
+    check_words(rt, &work.dependencies, 36 * channels, &[])?;
+    check_numbers(rt, &work.ranks, 8 * channels, &[])?;
+    check_numbers(rt, &work.ring, 0, &[])
 }
 
 #[test]

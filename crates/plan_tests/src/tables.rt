@@ -85,10 +85,10 @@ impl Work {
     }
 
     // Nothing was written.
-    pub fn check_untouched(&self) -> Result<(), Fail> {
-        check_words(&self.dependencies, 0, &[])?;
-        check_numbers(&self.ranks, 0, &[])?;
-        check_numbers(&self.ring, 0, &[])
+    pub fn check_untouched(&self, rt: &impl Abort) -> Result<(), Fail> {
+        check_words(rt, &self.dependencies, 0, &[])?;
+        check_numbers(rt, &self.ranks, 0, &[])?;
+        check_numbers(rt, &self.ring, 0, &[])
     }
 }
 
@@ -145,17 +145,27 @@ pub fn check_bytes(
 }
 
 // The same for numbers.
-pub fn check_numbers(table: &[u16], needed: usize, entries: &[(usize, u64)]) -> Result<(), Fail> {
+pub fn check_numbers(
+    rt: &impl Abort,
+    table: &[u16],
+    needed: usize,
+    entries: &[(usize, u64)],
+) -> Result<(), Fail> {
     for (k, number) in table.iter().enumerate() {
-        assert_eq!(u64::from(*number), wanted(entries, needed, k));
+        assert_eq!(rt; u64::from(*number), wanted(entries, needed, k));
     }
     Ok(())
 }
 
 // The same for words.
-pub fn check_words(table: &[u64], needed: usize, entries: &[(usize, u64)]) -> Result<(), Fail> {
+pub fn check_words(
+    rt: &impl Abort,
+    table: &[u64],
+    needed: usize,
+    entries: &[(usize, u64)],
+) -> Result<(), Fail> {
     for (k, word) in table.iter().enumerate() {
-        assert_eq!(*word, wanted(entries, needed, k));
+        assert_eq!(rt; *word, wanted(entries, needed, k));
     }
     Ok(())
 }

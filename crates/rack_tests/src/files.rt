@@ -103,29 +103,35 @@ impl Tables {
     }
 
     // Every place from the given ones on holds its mark.
-    pub fn check_marks(&self, nodes: usize, cables: usize, forwarding: usize) -> Result<(), Fail> {
+    pub fn check_marks(
+        &self,
+        rt: &impl Abort,
+        nodes: usize,
+        cables: usize,
+        forwarding: usize,
+    ) -> Result<(), Fail> {
         for (k, kind) in self.nodes.iter().enumerate() {
-            assert!(k < nodes || *kind == MARK);
+            assert!(rt; k < nodes || *kind == MARK);
         }
         for (k, laid) in self.cables.iter().enumerate() {
-            assert!(k < cables || *laid == cable(9, 9, 9, 9));
+            assert!(rt; k < cables || *laid == cable(9, 9, 9, 9));
         }
         for (k, hop) in self.forwarding.iter().enumerate() {
-            assert!(k < forwarding || *hop == 9);
+            assert!(rt; k < forwarding || *hop == 9);
         }
         Ok(())
     }
 
     // Every place that reading needs is zero.
-    pub fn check_zero(&self) -> Result<(), Fail> {
+    pub fn check_zero(&self, rt: &impl Abort) -> Result<(), Fail> {
         for (k, kind) in self.nodes.iter().enumerate() {
-            assert!(k >= 128 || *kind == 0);
+            assert!(rt; k >= 128 || *kind == 0);
         }
         for (k, laid) in self.cables.iter().enumerate() {
-            assert!(k >= 256 || *laid == Cable::none());
+            assert!(rt; k >= 256 || *laid == Cable::none());
         }
         for (k, hop) in self.forwarding.iter().enumerate() {
-            assert!(k >= 16384 || *hop == 0);
+            assert!(rt; k >= 16384 || *hop == 0);
         }
         Ok(())
     }
@@ -145,8 +151,8 @@ pub fn check_refused(
         Ok(_) => Err(Fail::new("accepted")),
         Err(fault) => {
             assert_eq!(rt; (fault.number(), fault.record()), (number, about));
-            tables.check_zero()?;
-            tables.check_marks(128, 256, 16384)
+            tables.check_zero(rt)?;
+            tables.check_marks(rt, 128, 256, 16384)
         }
     }
 }
@@ -163,7 +169,7 @@ pub fn check_accepted(
     match tables.read(file, limits) {
         Ok(told) => {
             assert_eq!(rt; told, counts);
-            tables.check_marks(128, 256, 16384)
+            tables.check_marks(rt, 128, 256, 16384)
         }
         Err(_) => Err(Fail::new("refused")),
     }

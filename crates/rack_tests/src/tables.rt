@@ -78,7 +78,7 @@ fn empty(rt: HostRuntime) -> Result<(), Fail> {
             entries: 0,
         }
     );
-    tables.check_zero()
+    tables.check_zero(&rt)
 }
 
 // Tables one place short are refused, whatever the file is, and are as they were.
@@ -102,7 +102,7 @@ fn short(rt: HostRuntime) -> Result<(), Fail> {
                 assert_eq!(rt; fault.record(), 0);
             }
         }
-        tables.check_marks(0, 0, 0)?;
+        tables.check_marks(&rt, 0, 0, 0)?;
     }
     Ok(())
 }

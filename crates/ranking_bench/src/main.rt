@@ -76,7 +76,7 @@ fn growth(rt: &HostRuntime, name: &str, shape: Shape) -> io::Result<()> {
 
 fn main(rt: HostRuntime) -> io::Result<()> {
     for word in env::args(&rt)?.skip(1) {
-        if word == "time" {
+        if word.as_str() == "time" {
             println!(rt; "time at 512, 1024, 2048 and 4096 points, over the time at 512")?;
             growth(&rt, "grid ", Shape::Grid)?;
             growth(&rt, "chain", Shape::Chain)?;
