@@ -1,8 +1,8 @@
 -- Setting one bit of a word. Assumes nothing.
-use Rattle.std.proofs.Common.{◌≡◌, ℕ, zero, suc, ◌+◌, ◌-◌, ◌*◌, ◌/◌, ◌%◌, ◌^◌, ◌<◌, ◌≤◌, Bool, true, false, eqb, ◌⊎◌, sym, refl, ap, ◌∙◌, subst, inl, inr, ⊎_elim, mul_comm, one-mul, arith}
+use Rattle.std.proofs.Common.{◌≡◌, ℕ, suc, ◌+◌, ◌-◌, ◌/◌, ◌%◌, ◌^◌, ◌<◌, true, eqb, ◌⊎◌, sym, ap, ◌∙◌, inl, inr, one-mul, arith}
 use native.Mathlib.Nat.{div-eq_of_lt}
-use lib.Bits.{bit_or, or_shr, or_mod, or_zero_r, or_comm, shifted_even}
-use Rattle.std.proofs.lemmas.Nat.{pow-add, shl-shr, pow_below, pow_pos, mod_below}
+use lib.Bits.{bit_or, or_shr, or_mod, or_zero_r, shifted_even}
+use Rattle.std.proofs.lemmas.Nat.{pow-add, shl-shr, pow_below, mod_below}
 use Rattle.std.proofs.lemmas.Bool.{cases_eq, cases_lt}
 use Rattle.checking.specs.Words.{bit}
 

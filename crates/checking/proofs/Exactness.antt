@@ -1,21 +1,19 @@
 -- The marks of all pairs are the dependencies of the plan. Assumes nothing.
-use Rattle.std.proofs.Common.{◌≡◌, ℕ, zero, suc, ◌+◌, ◌-◌, ◌*◌, ◌/◌, ◌%◌, ◌<◌, ◌≤◌, true, false, ◌⊎◌, ◌↔◌, List, length, get_or, Some, None, sym, refl, ap, ◌∙◌, subst, inl, inr, ⊎_elim, arith, eqb-true}
-use borrow.Author.Tests.{both_ways}
-use Rattle.rack.specs.declared.rack.Rack.{Rack}
-use Rattle.rack.specs.Racks.{node_count, channel_count, head, tail, tail_port, Leaving, LeavingBy, Host}
+use Rattle.std.proofs.Common.{◌≡◌, ℕ, suc, ◌+◌, ◌*◌, ◌/◌, ◌%◌, ◌<◌, ◌≤◌, true, ◌↔◌, List, get_or, sym, refl, ap, ◌∙◌, subst, arith, eqb-true}
+use Rattle.rack.specs.Racks.{node_count, channel_count, head, tail, tail_port, LeavingBy}
 use Rattle.rack.proofs.Facts.{host_below, tail_port_within, same_port}
-use Rattle.ranking.specs.Graphs.{NoRing, Ranked, Ringed, Answered}
+use Rattle.ranking.specs.Graphs.{Ranked, Ringed}
 use Rattle.ranking.proofs.Chains.{no_ring_under, ring_under, rank_same}
 use Rattle.routing.specs.Sources.{enters_switch}
 use Rattle.routing.specs.Turns.{turns, turn_place, turn_count}
-use Rattle.routing.specs.Paths.{Routing, Hop, hop, PairOf, hop_at, OnPath}
+use Rattle.routing.specs.Paths.{Routing, Hop, PairOf, hop_at}
 use Rattle.routing.proofs.Tests.{both_snd, turns_below, turns_enters, entered}
 use Rattle.routing.proofs.Sourced.{cond_true}
 use Rattle.routing.proofs.Hops.{some_same, came, hop_below, from_first}
 use Rattle.checking.specs.Words.{bit, word_of, FollowedBy}
 use Rattle.checking.specs.Plans.{level_at, On, virtual, Follows, AllPairs, Exact}
-use Rattle.checking.specs.Marks.{Adds, Says, PairSays, AllSay}
-use Rattle.checking.proofs.Scans.{word_turns, followed_turns}
+use Rattle.checking.specs.Marks.{AllSay}
+use Rattle.checking.proofs.Scans.{followed_turns}
 
 module _ (g : Routing) (levels : List ℕ) (lanes : ℕ) (few : lanes ≤ 8) (fine : AllPairs g levels lanes) where
   -- a hop and the next of a pair's path: channels, a turn, lanes

@@ -1,5 +1,5 @@
 -- From the parts of the check to its answer. Assumes nothing.
-use Rattle.std.proofs.Common.{◌≡◌, ℕ, ◌+◌, ◌*◌, ◌/◌, ◌%◌, ◌<◌, ◌≤◌, true, ◌⊎◌, ◌↔◌, List, ◌++◌, length, get_or, drop, is_ok, Ok, Err, Result, sym, refl, ap, ◌∙◌, subst, inl, inr, ⊎_elim, arith, eqb-true}
+use Rattle.std.proofs.Common.{◌≡◌, ℕ, ◌+◌, ◌*◌, ◌/◌, ◌%◌, ◌<◌, true, ◌⊎◌, ◌↔◌, List, ◌++◌, length, get_or, drop, is_ok, Ok, Err, Result, sym, refl, ap, ◌∙◌, subst, inl, inr, arith, eqb-true}
 use Rattle.std.proofs.lemmas.List.{get_or_append_left}
 use Rattle.rack.specs.Racks.{node_count, channel_count, head, tail, tail_port}
 use Rattle.routing.specs.Turns.{turn_count, turn_place}
@@ -8,7 +8,7 @@ use Rattle.checking.specs.declared.acceptance.Acceptance.{Acceptance}
 use Rattle.checking.specs.declared.fault.CheckFault.{CheckFault}
 use Rattle.checking.specs.declared.fault.CheckFault.TheVariants.{Lanes, Tables, Level, Walk, Ring, Memory}
 use Rattle.checking.specs.Words.{bit, word_of, FollowedBy, ChannelFollowedBy}
-use Rattle.checking.specs.Starts.{Ranged, Long, StartRefused}
+use Rattle.checking.specs.Starts.{Long, StartRefused}
 use Rattle.routing.specs.declared.pair.Pair.{Pair}
 use Rattle.routing.specs.declared.fault.WalkFault.{WalkFault}
 use Rattle.routing.specs.declared.fault.WalkFault.TheVariants.{NoPair, Endless, NoChannel, Elsewhere, Lane, OtherHost, Memory as NoMemory}
@@ -21,7 +21,7 @@ use Rattle.ranking.specs.Graphs.{NoRing, Ranked}
 use Rattle.ranking.proofs.Chains.{no_ring_from_rise, ranks_rise}
 use Rattle.rack.specs.declared.rack.Rack.{Rack}
 use borrow.Author.Tests.{both_ways}
-use Rattle.checking.specs.Plans.{FirstFault, level_at, Follows, AllPairs, Sound, Rises}
+use Rattle.checking.specs.Plans.{FirstFault, level_at, Follows, AllPairs, Sound}
 use Rattle.checking.proofs.Scans.{bit_zero, followed_turns}
 use Rattle.checking.proofs.Rising.{rising_free}
 use Rattle.checking.specs.Marks.{AllSay, Collected, Settled}

@@ -1,16 +1,16 @@
 -- From the list that a walk gives to the marks of a pair's path. Assumes nothing.
-use Rattle.std.proofs.Common.{◌≡◌, ℕ, zero, suc, ◌+◌, ◌-◌, ◌*◌, ◌<◌, ◌≤◌, true, false, ◌⊎◌, ◌↔◌, List, length, get_or, Some, None, sym, refl, ap, ◌∙◌, subst, inl, inr, ⊎_elim, arith}
-use Rattle.std.proofs.lemmas.List.{get_or_default, get_or_read}
+use Rattle.std.proofs.Common.{◌≡◌, ℕ, suc, ◌+◌, ◌-◌, ◌<◌, ◌≤◌, true, false, List, length, get_or, Some, sym, ap, ◌∙◌, subst, inl, inr, ⊎_elim, arith}
+use Rattle.std.proofs.lemmas.List.{get_or_read}
 use Rattle.std.proofs.lemmas.Bool.{cases_eq, cases_lt}
 use Rattle.rack.specs.declared.rack.Rack.{Rack}
-use Rattle.rack.specs.Racks.{channel_count, head, Host, Leaving}
+use Rattle.rack.specs.Racks.{Leaving}
 use Rattle.rack.proofs.Facts.{host_no_switch}
 use Rattle.routing.specs.declared.pair.Pair.{Pair}
 use Rattle.routing.specs.declared.walk.Step.{Step}
 use Rattle.routing.specs.Sources.{enters_switch}
 use Rattle.routing.specs.Turns.{turns}
-use Rattle.routing.specs.Paths.{Routing, Hop, hop, PairOf, hop_at, OnPath, EndsAtHop}
-use Rattle.routing.specs.Walks.{hop_of, ListsPath, Walked}
+use Rattle.routing.specs.Paths.{Routing, Hop, hop_at, OnPath}
+use Rattle.routing.specs.Walks.{hop_of, Walked}
 use Rattle.routing.proofs.Tests.{enters_no}
 use Rattle.routing.proofs.Hops.{some_same, came, hop_last, from_first}
 use Rattle.checking.specs.Plans.{On, level_at, FinePair}

@@ -1,7 +1,7 @@
 -- Where lanes rise from switch to switch, there is no ring. Assumes nothing.
-use Rattle.std.proofs.Common.{◌≡◌, ℕ, suc, ◌+◌, ◌*◌, ◌/◌, ◌%◌, ◌<◌, ◌≤◌, Bool, true, false, cond, ◌⊎◌, List, get_or, sym, refl, ap, ◌∙◌, subst, inl, inr, ⊎_elim, arith}
+use Rattle.std.proofs.Common.{◌≡◌, ℕ, ◌+◌, ◌/◌, ◌%◌, ◌<◌, ◌≤◌, cond, List, sym, ◌∙◌, subst, ⊎_elim, arith}
 use Rattle.rack.specs.declared.rack.Rack.{Rack}
-use Rattle.rack.specs.Racks.{nodes_of, channel_count, head, tail, Host, Switch}
+use Rattle.rack.specs.Racks.{head, tail, Host, Switch}
 use Rattle.rack.proofs.Facts.{host_or_switch, host_no_switch, tail_below, head_below}
 use Rattle.ranking.specs.Graphs.{NoRing}
 use Rattle.ranking.proofs.Chains.{no_ring_from_rise}

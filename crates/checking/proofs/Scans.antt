@@ -1,16 +1,16 @@
 -- Looking for the least follower or forerunner, channel by channel. Assumes nothing.
-use Rattle.std.proofs.Common.{◌≡◌, ℕ, zero, suc, ◌+◌, ◌-◌, ◌*◌, ◌/◌, ◌%◌, ◌^◌, ◌<◌, ◌≤◌, Bool, true, false, cond, eqb, ◌⊎◌, List, get_or, sym, refl, ap, ◌∙◌, subst, inl, inr, ⊎_elim, arith, ltb-true, eq-eqb, ne_eqb, eqb-true}
+use Rattle.std.proofs.Common.{◌≡◌, ℕ, ◌+◌, ◌*◌, ◌/◌, ◌%◌, ◌^◌, ◌<◌, ◌≤◌, Bool, true, false, eqb, List, sym, ap, ◌∙◌, subst, ⊎_elim, arith, eq-eqb, ne_eqb, eqb-true}
 use native.Mathlib.Nat.{zero-div}
 use borrow.Author.Tests.{both_ways}
-use Rattle.std.proofs.lemmas.Bool.{cases_lt, cases_eq, cases_order}
+use Rattle.std.proofs.lemmas.Bool.{cases_lt, cases_eq}
 use Rattle.rack.specs.declared.rack.Rack.{Rack}
-use Rattle.rack.specs.Racks.{channel_count, head, tail, tail_port, Leaving, Entering, EntersSwitch}
+use Rattle.rack.specs.Racks.{channel_count, head, tail, Leaving, Entering, EntersSwitch}
 use Rattle.routing.specs.Sources.{enters_switch}
-use Rattle.routing.specs.Turns.{turns, turn_place}
-use Rattle.routing.proofs.Tests.{both_fst, both_snd, turns_below, turns_enters, entered}
+use Rattle.routing.specs.Turns.{turns}
+use Rattle.routing.proofs.Tests.{both_snd, turns_below, turns_enters, entered}
 use Rattle.routing.proofs.Sourced.{cond_true, cond_false}
 use Rattle.routing.proofs.Hops.{by_bool}
-use Rattle.checking.specs.Words.{bit, word_of, FollowedBy, ChannelFollowedBy, low_lane}
+use Rattle.checking.specs.Words.{bit, word_of, FollowedBy, low_lane}
 
 low_lane_le : (d from y : ℕ) → from ≤ y → y / 8 ≡ d → low_lane d from ≤ y % 8
 low_lane_le d from y l e =

@@ -1,7 +1,7 @@
 -- What a plan's dependencies are, and when a plan is sound. Assumes nothing.
 use Rattle.std.specs.Prelude.{◌≡◌, ℕ, suc, ◌+◌, ◌*◌, ◌<◌, ◌≤◌, true, ◌⊎◌, ◌↔◌, List, slice_index}
 use Rattle.rack.specs.declared.rack.Rack.{Rack}
-use Rattle.rack.specs.Racks.{node_count, channel_count, head, tail, tail_port, Switch, LeavingBy}
+use Rattle.rack.specs.Racks.{node_count, channel_count, head, tail, Switch, LeavingBy}
 use Rattle.ranking.specs.Graphs.{NoRing}
 use Rattle.routing.specs.declared.pair.Pair.{Pair}
 use Rattle.routing.specs.Turns.{turn_place}

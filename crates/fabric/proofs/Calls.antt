@@ -1,5 +1,5 @@
 -- From what the calls read and write to what they do to the packets. Assumes nothing.
-use Rattle.std.proofs.Common.{◌≡◌, ℕ, zero, suc, ◌+◌, ◌-◌, ◌*◌, ◌<◌, ◌≤◌, Bool, true, false, List, [], ◌∷◌, ◌++◌, length, get_or, take, drop, set, replicate, Some, None, sum_by, Option, sym, refl, ap, ◌∙◌, inl, inr, arith, length-append, length-drop, length-take, get_or-set_other, get_or-set_same}
+use Rattle.std.proofs.Common.{◌≡◌, ℕ, zero, suc, ◌+◌, ◌*◌, ◌<◌, ◌≤◌, Bool, true, false, List, [], ◌∷◌, ◌++◌, length, get_or, take, drop, set, replicate, Some, None, sum_by, Option, sym, refl, ap, ◌∙◌, inl, inr, arith, length-append, length-drop, length-take, get_or-set_other, get_or-set_same}
 use lib.ListN.{length-map, length-replicate}
 use lib.Seq.{map-set}
 use Rattle.std.proofs.lemmas.List.{get_or-map, take_more, drop_at}

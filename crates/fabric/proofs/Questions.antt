@@ -1,5 +1,5 @@
 -- The questions that a call asks, in their order: the first that is not answered yes is the refusal. Assumes nothing.
-use Rattle.std.proofs.Common.{◌≡◌, ℕ, zero, suc, ◌+◌, ◌*◌, ◌/◌, ◌<◌, ◌≤◌, Bool, true, false, ◌⊎◌, List, [], ◌∷◌, length, Some, Err, sym, refl, ap, ◌∙◌, subst, ⊎_elim, arith}
+use Rattle.std.proofs.Common.{◌≡◌, ℕ, zero, suc, ◌+◌, ◌*◌, ◌/◌, ◌<◌, ◌≤◌, Bool, true, false, List, [], ◌∷◌, length, Some, Err, sym, refl, ap, ◌∙◌, subst, ⊎_elim, arith}
 use Rattle.std.proofs.lemmas.Bool.{cases_eq, cases_lt}
 use Rattle.rack.specs.Racks.{head, Leaving}
 use Rattle.rack.proofs.Facts.{one_out}
@@ -8,7 +8,7 @@ use Rattle.routing.specs.declared.fault.WalkFault.{WalkFault}
 use Rattle.routing.specs.declared.fault.WalkFault.TheVariants.{NoPair as NoSuchPair, Endless, NoChannel, Elsewhere, Lane, OtherHost, Memory}
 use Rattle.routing.specs.Sources.{enters_switch}
 use Rattle.routing.specs.Turns.{turns}
-use Rattle.routing.specs.Paths.{Hop, hop}
+use Rattle.routing.specs.Paths.{Hop}
 use Rattle.routing.specs.Walks.{Advances}
 use Rattle.routing.proofs.Hops.{some_none, some_same}
 use Rattle.checking.specs.Starts.{Ranged}

@@ -1,5 +1,5 @@
 -- Who waits in the queues of a rack, as calls change it. Assumes nothing.
-use Rattle.std.proofs.Common.{◌≡◌, ℕ, zero, suc, ◌+◌, ◌<◌, ◌≤◌, ◌⊎◌, List, [], ◌∷◌, ◌++◌, map, length, get_or, take, set, sym, refl, ap, ◌∙◌, ⊎_elim, arith, length-take, get_or-take}
+use Rattle.std.proofs.Common.{◌≡◌, ℕ, zero, suc, ◌<◌, ◌≤◌, List, [], ◌∷◌, ◌++◌, map, length, get_or, take, set, sym, refl, ap, ◌∙◌, ⊎_elim, arith, length-take, get_or-take}
 use lib.ListN.{length-map}
 use lib.Seq.{map-set, take-set-lt}
 use Rattle.std.specs.List.{AllByRecursion as All}

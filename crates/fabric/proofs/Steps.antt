@@ -1,5 +1,5 @@
 -- Each call on the fabric under a sound plan is a step of the law of courses, and keeps every packet in its place. Assumes nothing.
-use Rattle.std.proofs.Common.{◌≡◌, ℕ, suc, ◌+◌, ◌*◌, ◌/◌, ◌%◌, ◌<◌, ◌≤◌, Bool, true, false, cond, eqb, ◌⊎◌, List, [], ◌∷◌, ◌++◌, map, length, get_or, set, Some, None, Option, sym, refl, ap, ◌∙◌, subst, inl, inr, ⊎_elim, zero-add, arith, length-set, eqb-true}
+use Rattle.std.proofs.Common.{◌≡◌, ℕ, suc, ◌+◌, ◌*◌, ◌/◌, ◌%◌, ◌<◌, ◌≤◌, Bool, true, false, cond, eqb, List, [], ◌∷◌, ◌++◌, map, length, get_or, set, Some, None, Option, sym, refl, ap, ◌∙◌, subst, inl, inr, ⊎_elim, zero-add, arith, length-set, eqb-true}
 use lib.ListN.{length-map}
 use Rattle.std.specs.List.{AllByRecursion as All}
 use Rattle.std.proofs.ByRecursion.{All-map, All-weaker}
@@ -28,7 +28,7 @@ use Rattle.fabric.specs.Packets.{contents, contents_of, next_hop, moved, deliver
 use Rattle.fabric.specs.Calls.{Setup, queue_count, Ready, level_for, PairHere, Admits, Goes_on, Forwards, Takes, Acts}
 use Rattle.fabric.specs.Courses.{event, path, path_of, InPlace, AllInPlace, standing, Stirs}
 use Rattle.fabric.proofs.Hops.{at_place, of_place}
-use Rattle.fabric.proofs.Roads.{channel_of, hop_again, on_hop, rules, starts, leads, pair_starts, out, out_leaves, only_out, HopIs, path-is, low, narrow, last_hop, not_later, leads_home, leads_on}
+use Rattle.fabric.proofs.Roads.{channel_of, hop_again, on_hop, rules, leads, pair_starts, out, out_leaves, only_out, HopIs, path-is, low, narrow, last_hop, not_later, leads_home, leads_on}
 use Rattle.fabric.proofs.Standing.{told_cons, some_at, bounded, unbounded, stand, stand_length, stand_at, stand_past, stand_set, stand_push}
 
 to_none : (o : Option Hop) → on_hop o ≡ home → ⊥

@@ -1,3 +1,5 @@
+#![tactic(auto)]
+
 // Tests of the fabric: courses of calls on a triangle, and what is answered to each.
 #[cfg(test)]
 mod bench;

@@ -1,4 +1,6 @@
 // Reads a rack file from standard input, and prints what the console answers.
+#![tactic(auto)]
+
 ghost use Rattle.std.specs.Prelude.{◌≤◌, length, IfOk};
 
 use report::report::report;

@@ -1,3 +1,5 @@
+#![tactic(auto)]
+
 // Tests of building and checking plans: racks, their tables, and what is answered place by place.
 #[cfg(test)]
 mod bare;

@@ -1,15 +1,15 @@
 -- What the builder builds, the check accepts. Assumes nothing.
-use Rattle.std.proofs.Common.{◌≡◌, ℕ, zero, suc, ◌+◌, ◌-◌, ◌*◌, ◌<◌, ◌≤◌, true, false, ◌⊎◌, List, length, get_or, IfErr, Some, None, Ok, Err, Option, Result, sym, refl, ap, ◌∙◌, subst, inl, inr, ⊎_elim, arith}
+use Rattle.std.proofs.Common.{◌≡◌, ℕ, zero, suc, ◌+◌, ◌-◌, ◌<◌, ◌≤◌, true, false, ◌⊎◌, List, length, get_or, IfErr, Some, Ok, Err, Option, Result, sym, refl, ap, ◌∙◌, subst, inl, inr, ⊎_elim, arith}
 use Rattle.std.proofs.lemmas.Bool.{cases_eq, cases_lt}
 use Rattle.rack.specs.declared.rack.Rack.{Rack}
-use Rattle.rack.specs.Racks.{channel_count, node_count, head, tail, Host, Switch, Leaving}
+use Rattle.rack.specs.Racks.{channel_count, head, tail, Host, Switch, Leaving}
 use Rattle.rack.proofs.Facts.{host_no_switch}
 use Rattle.routing.specs.Sources.{enters_switch}
 use Rattle.routing.specs.Turns.{turns, stored_lane}
-use Rattle.routing.specs.Paths.{Routing, routing, Hop, hop, PairOf, hop_at, OnPath, Delivered}
+use Rattle.routing.specs.Paths.{Routing, routing, Hop, hop, PairOf, hop_at, OnPath}
 use Rattle.routing.proofs.Tests.{enters_no}
 use Rattle.routing.proofs.Hops.{some_same, came, hop_more, hop_last, from_first}
-use Rattle.builder.specs.Method.{alone, PathOf, Middle, entry_of, tables}
+use Rattle.builder.specs.Method.{alone, PathOf, tables}
 use Rattle.builder.specs.Laws.{Rises, EndsKeep0}
 use Rattle.builder.specs.Outcomes.{InRange}
 use Rattle.checking.specs.Plans.{level_at, On, FinePair, AllPairs}

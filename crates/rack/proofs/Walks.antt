@@ -5,7 +5,7 @@ use Rattle.std.proofs.lemmas.Bool.{cases_order}
 use Rattle.rack.specs.declared.numbers.Channel.{Channel}
 use Rattle.rack.specs.declared.cable.End.{End}
 use Rattle.rack.specs.declared.rack.Rack.{Rack}
-use Rattle.rack.specs.Network.{channels, tail_end, Leaves}
+use Rattle.rack.specs.Network.{tail_end, Leaves}
 use Rattle.rack.specs.Index.{port_place}
 use Rattle.rack.specs.Racks.{cables_of, node_count, channel_count, tail, head, Host, Leaving, Entering, EntersSwitch, back}
 use Rattle.rack.proofs.Facts as facts

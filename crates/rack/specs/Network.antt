@@ -1,5 +1,5 @@
 -- Ports, cables and channels, over a list of nodes and a list of cables. Assumes nothing.
-use Rattle.std.specs.Prelude.{◌≡◌, ℕ, ◌+◌, ◌*◌, ◌/◌, ◌%◌, ◌<◌, ◌≤◌, cond, ◌⊎◌, List, length, get_or, ◌==◌, ◌≢◌, slice_index, slice_index_or}
+use Rattle.std.specs.Prelude.{◌≡◌, ℕ, ◌*◌, ◌/◌, ◌%◌, ◌<◌, ◌≤◌, cond, ◌⊎◌, List, length, get_or, ◌==◌, ◌≢◌, slice_index, slice_index_or}
 use Rattle.rack.specs.declared.cable.Cable.{Cable}
 use Rattle.rack.specs.declared.cable.End.{End}
 

@@ -1,4 +1,6 @@
 // A rack: its tables, its nodes, cables and channels.
+#![tactic(auto)]
+
 pub mod cable;
 pub mod ends;
 pub mod fault;

@@ -1,3 +1,5 @@
+#![tactic(auto)]
+
 // Tests of reading a rack file: tables of files and answers.
 #[cfg(test)]
 mod files;

@@ -1,5 +1,5 @@
 -- What a relation within n has if it has no ring: no long chain, an induction along its steps, and, where it can be decided, ranks.
-use Rattle.std.proofs.Common.{◌≡◌, ℕ, zero, suc, ◌+◌, ◌-◌, ◌<◌, ◌≤◌, ◌⊎◌, sym, refl, ap, ◌∙◌, subst, inl, inr, add-one, arith}
+use Rattle.std.proofs.Common.{◌≡◌, ℕ, zero, suc, ◌+◌, ◌-◌, ◌<◌, ◌⊎◌, sym, refl, ap, ◌∙◌, subst, inl, inr, arith}
 use native.Mathlib.Decide.{ℕ_discrete, dec_lt}
 use Rattle.ranking.specs.Graphs.{Within, ChainTo, IsRank, IsRing, NoRing, HaveRanks}
 use Rattle.ranking.proofs.Pigeons.{pigeonhole}

@@ -1,4 +1,6 @@
 // Ranks of the points of any finite graph, or a ring of it. Tests and a benchmark stand in `ranking_bench`.
+#![tactic(auto)]
+
 ghost use Rattle.std.specs.Prelude.{◌≡◌, true, false, ◌↔◌, is_ok, Ok, Err};
 ghost use Rattle.ranking.specs.declared.faults.RankFault.TheVariants.{Tables};
 ghost use Rattle.ranking.specs.Graphs.{Answered, Room, Short, NoRing, HaveRanks};

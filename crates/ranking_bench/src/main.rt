@@ -1,3 +1,5 @@
+#![tactic(auto)]
+
 // How the time of the ranking grows with the count of points, and tests of the ranking.
 //
 // The work grows with (points + dependencies) x (greatest rank + 1). From 512 to 4096 points that is eight times as much

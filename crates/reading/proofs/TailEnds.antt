@@ -3,7 +3,7 @@ use Rattle.std.proofs.Common.{◌≡◌, ℕ, ◌+◌, ◌*◌, ◌/◌, ◌%◌
 use Rattle.std.proofs.lemmas.Bool.{eq-eqb, ne_eqb, cond-true, cond-false, true≢false, false≢true}
 use Rattle.rack.specs.declared.cable.Cable.{Cable}
 use Rattle.rack.specs.declared.cable.End.{End}
-use Rattle.rack.specs.Network.{none, channels, tail_end, EndsAt, FreeEnd, Leaves}
+use Rattle.rack.specs.Network.{none, tail_end, EndsAt, FreeEnd, Leaves}
 
 -- channel 2k leaves by the first end of cable k
 pub tail_first : (cables : List Cable) (k : ℕ) → tail_end cables (2 * k) ≡ (get_or cables k none).first

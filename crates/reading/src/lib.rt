@@ -1,4 +1,6 @@
 // Reads a rack file into tables.
+#![tactic(auto)]
+
 pub mod add;
 pub mod fault;
 pub mod limits;

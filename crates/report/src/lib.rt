@@ -1,4 +1,6 @@
 // What the console answers to a rack file.
+#![tactic(auto)]
+
 pub mod laws;
 pub mod lines;
 mod pairs;

@@ -1,14 +1,14 @@
 -- A channel that comes twice comes for ever. Assumes nothing.
-use Rattle.std.proofs.Common.{◌≡◌, ℕ, zero, suc, ◌+◌, ◌-◌, ◌<◌, ◌≤◌, Bool, true, false, cond, ◌⊎◌, Some, None, Option, sym, refl, ap, ◌∙◌, subst, inl, inr, ⊎_elim, arith}
+use Rattle.std.proofs.Common.{◌≡◌, ℕ, zero, suc, ◌+◌, ◌-◌, ◌<◌, ◌≤◌, Bool, true, false, cond, Some, None, Option, sym, refl, ap, ◌∙◌, subst, ⊎_elim, arith}
 use Rattle.std.proofs.lemmas.Bool.{cases_lt, cases_eq}
-use Rattle.rack.specs.Racks.{channel_count, head, Host, Switch, Leaving}
-use Rattle.rack.proofs.Facts.{one_in, one_out, host_no_switch}
+use Rattle.rack.specs.Racks.{channel_count, head, Host, Switch}
+use Rattle.rack.proofs.Facts.{one_in, host_no_switch}
 use Rattle.routing.specs.Sources.{enters_switch}
-use Rattle.routing.specs.Paths.{Routing, Hop, named, behind, hop_at, OnPath, EndsAtHop, Delivered}
-use Rattle.routing.specs.Laws.{Goes_on, AllWalked, NeverEnds, NeverDelivered, DeliveredInTime, NoChannelTwice}
-use Rattle.routing.proofs.Hops.{some_none, some_same, came, gone, hop_below, hop_last, behind_ends, from_first}
+use Rattle.routing.specs.Paths.{Routing, Hop, named, behind, hop_at, EndsAtHop, Delivered}
+use Rattle.routing.specs.Laws.{NeverEnds, NeverDelivered, DeliveredInTime, NoChannelTwice}
+use Rattle.routing.proofs.Hops.{some_none, some_same, came, gone, hop_below, behind_ends, from_first}
 use Rattle.routing.proofs.Repeats.{twice}
-use Rattle.routing.proofs.Tests.{enters_no, entered}
+use Rattle.routing.proofs.Tests.{enters_no}
 
 -- what is not none is something
 pub something : {X : Type 0} (x : Option X) → (x ≡ None → ⊥) → (y : X) × (x ≡ Some y)

@@ -1,5 +1,5 @@
 -- The path of a pair, for every assignment of channels and lanes. Assumes nothing.
-use Rattle.std.specs.Prelude.{◌≡◌, ℕ, zero, suc, ◌+◌, ◌-◌, ◌*◌, ◌<◌, ◌≤◌, Bool, true, false, cond, ◌⊎◌, List, length, Some, None, Option, ◌≢◌}
+use Rattle.std.specs.Prelude.{◌≡◌, ℕ, zero, suc, ◌<◌, cond, Some, None, Option, ◌≢◌}
 use Rattle.rack.specs.declared.rack.Rack.{Rack}
 use Rattle.rack.specs.Racks.{channel_count, head, Host, Leaving}
 use Rattle.routing.specs.Sources.{enters_switch}

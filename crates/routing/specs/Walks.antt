@@ -1,5 +1,5 @@
 -- What walking a path answers. Assumes nothing.
-use Rattle.std.specs.Prelude.{◌≡◌, ℕ, ◌+◌, ◌-◌, ◌<◌, ◌≤◌, true, false, List, length, Some, None, Ok, Err, Result, ◌≢◌, slice_index_or}
+use Rattle.std.specs.Prelude.{◌≡◌, ℕ, ◌-◌, ◌<◌, ◌≤◌, true, false, List, length, Some, None, Ok, Err, Result, ◌≢◌, slice_index_or}
 use Rattle.rack.specs.Racks.{channel_count, head}
 use Rattle.routing.specs.declared.pair.Pair.{Pair}
 use Rattle.routing.specs.declared.fault.WalkFault.{WalkFault}

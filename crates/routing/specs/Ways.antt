@@ -1,5 +1,5 @@
 -- Ways through switches, true distances, and what the steps of the search for them keep. Assumes nothing.
-use Rattle.std.specs.Prelude.{◌≡◌, ℕ, zero, suc, ◌+◌, ◌*◌, ◌<◌, ◌≤◌, Bool, true, false, ◌⊎◌, List, length, ◌≢◌, slice_index}
+use Rattle.std.specs.Prelude.{◌≡◌, ℕ, zero, suc, ◌+◌, ◌*◌, ◌<◌, ◌≤◌, Bool, true, false, ◌⊎◌, List, ◌≢◌, slice_index}
 use Rattle.rack.specs.declared.rack.Rack.{Rack}
 use Rattle.rack.specs.Racks.{node_count, head, tail, Host, Switch, Leaving, Entering}
 

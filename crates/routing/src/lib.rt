@@ -1,4 +1,6 @@
 // Forwarding sources, lane maps, plans and the paths that they make.
+#![tactic(auto)]
+
 pub mod distances;
 pub mod downhill;
 pub mod fault;

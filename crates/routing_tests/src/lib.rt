@@ -1,3 +1,5 @@
+#![tactic(auto)]
+
 // Tests of forwarding sources, lane maps and paths, on small racks.
 #[cfg(test)]
 mod distances;

@@ -1,4 +1,6 @@
 // Prints what the console answers to each sample rack file.
+#![tactic(auto)]
+
 use report::report::report;
 use std::{fs, io};
 

@@ -1,4 +1,4 @@
-use Rattle.std.proofs.Common.{◌≡◌, refl, arith}
+use Rattle.std.proofs.Common.{refl, arith}
 use Rattle.rack.specs.Racks.{channel_count}
 use Rattle.checking.proofs.Final.{bare_free}
 use Rattle.checking.proofs.bare.check_channels.Goals as goal

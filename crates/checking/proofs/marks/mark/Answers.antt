@@ -1,8 +1,7 @@
-use Rattle.std.proofs.Common.{◌≡◌, ℕ, ◌+◌, ◌*◌, ◌%◌, ◌^◌, ◌<◌, ◌≤◌, true, false, length, get_or, set, sym, refl, ap, ◌∙◌, subst, arith}
+use Rattle.std.proofs.Common.{◌≡◌, ◌+◌, ◌*◌, ◌%◌, ◌^◌, sym, refl, ap, ◌∙◌, arith}
 use borrow.Author.Tests.{both_ways}
-use lib.Bits.{bit_or}
 use Rattle.std.proofs.lemmas.Nat.{one_shl}
-use Rattle.rack.specs.Racks.{channel_count, tail_port}
+use Rattle.rack.specs.Racks.{tail_port}
 use Rattle.routing.specs.Turns.{turns, turn_place}
 use Rattle.routing.proofs.Tests.{turns_enters, entered}
 use Rattle.checking.proofs.Adding.{adds_mark}

@@ -1,9 +1,8 @@
-use Rattle.std.proofs.Common.{◌≡◌, ℕ, ◌+◌, ◌-◌, ◌<◌, ◌≤◌, List, vec_capacity, sym, refl, ap, ◌∙◌, subst, arith}
+use Rattle.std.proofs.Common.{◌≡◌, ℕ, ◌+◌, List, sym, subst, arith}
 use borrow.Author.Tests.{both_ways}
 use Rattle.std.proofs.lemmas.Result.{err_from_is_err_and}
-use Rattle.rack.specs.Racks.{node_count, channel_count}
+use Rattle.rack.specs.Racks.{node_count}
 use Rattle.routing.specs.Paths.{routing}
-use Rattle.checking.specs.Plans.{FirstFault}
 use Rattle.checking.specs.Marks.{Adds, AllSay, AllFine}
 use Rattle.checking.proofs.Adding.{adds_none}
 use Rattle.checking.proofs.Pairing.{all_skip, all_more, first_fault}

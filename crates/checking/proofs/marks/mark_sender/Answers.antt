@@ -1,7 +1,7 @@
-use Rattle.std.proofs.Common.{◌≡◌, ℕ, ◌+◌, ◌-◌, ◌<◌, ◌≤◌, List, vec_capacity, sym, refl, ap, ◌∙◌, subst, arith}
+use Rattle.std.proofs.Common.{◌≡◌, ℕ, ◌+◌, List, sym, refl, subst, arith}
 use borrow.Author.Tests.{both_ways}
 use Rattle.std.proofs.lemmas.Result.{err_from_is_err_and}
-use Rattle.rack.specs.Racks.{node_count, channel_count}
+use Rattle.rack.specs.Racks.{node_count}
 use Rattle.routing.specs.Paths.{routing, PairOf}
 use Rattle.checking.specs.Marks.{Adds, SenderSays, SenderFine}
 use Rattle.checking.proofs.Adding.{adds_none}

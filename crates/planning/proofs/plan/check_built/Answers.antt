@@ -1,4 +1,3 @@
-use Rattle.std.proofs.Common.{◌≡◌}
 use Rattle.checking.specs.Answers.{tables_at}
 use Rattle.planning.proofs.Built.{all_fine, all_rise, only_short}
 use Rattle.planning.proofs.plan.check_built.Goals as goal

@@ -1,4 +1,4 @@
-use Rattle.std.proofs.Common.{◌≡◌, ℕ, ◌+◌, ◌<◌, ◌≤◌, List, length, take, drop, Some, None, Option, sym, ap, ◌∙◌, subst, arith, length-drop, MatchOption}
+use Rattle.std.proofs.Common.{◌≡◌, ℕ, ◌+◌, ◌<◌, ◌≤◌, List, length, take, drop, Some, None, Option, ap, ◌∙◌, arith, length-drop, MatchOption}
 use Rattle.routing.specs.declared.rows.Row.{Row}
 use Rattle.routing.specs.Turns.{row_start}
 use Rattle.std.proofs.lemmas.List.{take_rest}

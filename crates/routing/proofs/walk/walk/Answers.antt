@@ -1,9 +1,6 @@
-use Rattle.std.proofs.Common.{◌≡◌, ℕ, ◌+◌, ◌-◌, ◌<◌, ◌≤◌, true, false, [], ◌∷◌, ◌++◌, length, vec_items, vec_len, vec_capacity, sym, refl, ap, ◌∙◌, subst, arith}
+use Rattle.std.proofs.Common.{◌≡◌, ◌+◌, ◌-◌, [], ◌∷◌, ◌++◌, vec_items, vec_capacity, sym, refl, ap, ◌∙◌, subst, arith}
 use Rattle.std.proofs.lemmas.Result.{err_from_is_err_and}
-use Rattle.rack.specs.Racks.{channel_count}
-use Rattle.routing.specs.declared.walk.Step.{Step}
 use Rattle.routing.specs.Paths.{routing}
-use Rattle.routing.specs.Sources.{enters_switch}
 use Rattle.routing.specs.Walks.{WalkStops}
 use Rattle.routing.proofs.Tests.{enters_yes, enters_no}
 use Rattle.routing.proofs.Walking.{Walking, walking_start, walking_more, at_below, arrived, stopped, endless}

@@ -1,6 +1,6 @@
 use Rattle.std.proofs.Common.{◌≡◌, sym, ap, ◌∙◌, arith}
 use borrow.Author.Tests.{both_ways}
-use Rattle.rack.specs.Racks.{head, tail, Leaving, Entering}
+use Rattle.rack.specs.Racks.{head, Leaving}
 use Rattle.checking.specs.Words.{ChannelFollowedBy}
 use Rattle.checking.proofs.Scans.{go_below, go_passed, go_end}
 use Rattle.checking.proofs.bare.ChannelsGraph.next_follower.Goals as goal

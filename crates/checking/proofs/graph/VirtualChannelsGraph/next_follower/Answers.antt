@@ -1,5 +1,5 @@
-use Rattle.std.proofs.Common.{◌≡◌, ℕ, ◌+◌, ◌*◌, ◌/◌, ◌%◌, ◌<◌, ◌≤◌, true, false, sym, refl, ap, ◌∙◌, subst, arith}
-use Rattle.rack.specs.Racks.{tail, Leaving, Entering}
+use Rattle.std.proofs.Common.{◌≡◌, ◌+◌, ◌*◌, ◌/◌, ◌%◌, true, false, subst, arith}
+use Rattle.rack.specs.Racks.{Leaving}
 use Rattle.checking.specs.Words.{bit, word_of, FollowedBy}
 use Rattle.checking.proofs.Scans.{scan_found, scan_passed, scan_end, follower_sound, follower_makes}
 use Rattle.checking.proofs.graph.VirtualChannelsGraph.next_follower.Goals as goal

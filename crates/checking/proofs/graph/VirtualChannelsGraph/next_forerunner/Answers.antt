@@ -1,5 +1,5 @@
-use Rattle.std.proofs.Common.{◌≡◌, ℕ, ◌+◌, ◌*◌, ◌/◌, ◌%◌, ◌<◌, ◌≤◌, true, false, sym, refl, ap, ◌∙◌, subst, arith}
-use Rattle.rack.specs.Racks.{tail, Leaving, Entering}
+use Rattle.std.proofs.Common.{◌≡◌, ◌+◌, ◌*◌, ◌/◌, ◌%◌, true, false, sym, ap, subst, arith}
+use Rattle.rack.specs.Racks.{tail, Entering}
 use Rattle.checking.specs.Words.{bit, word_of, FollowedBy}
 use Rattle.checking.proofs.Scans.{scan_found, scan_passed, scan_end, forerunner_sound, forerunner_makes}
 use Rattle.checking.proofs.graph.VirtualChannelsGraph.next_forerunner.Goals as goal

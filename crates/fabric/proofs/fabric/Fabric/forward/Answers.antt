@@ -4,7 +4,7 @@ use Rattle.std.proofs.lemmas.Result.{err_from_is_err_and}
 use Rattle.routing.specs.Paths.{routing, hop}
 use Rattle.routing.proofs.Tests.{turns_below}
 use Rattle.courses.specs.Queues.{at, push}
-use Rattle.fabric.specs.Packets.{contents, contents_of, moved}
+use Rattle.fabric.specs.Packets.{contents, contents_of}
 use Rattle.fabric.specs.Calls.{setup}
 use Rattle.fabric.proofs.Calls.{forward_no_way, room_left, eight_at_most}
 use Rattle.fabric.proofs.fabric.Fabric.forward.Goals as goal

@@ -1,4 +1,4 @@
-use Rattle.std.proofs.Common.{◌≡◌, ℕ, ◌+◌, ◌<◌, ◌≤◌, Bool, false, sym, refl, ap, ◌∙◌, arith, below_more}
+use Rattle.std.proofs.Common.{◌≡◌, false, sym, ◌∙◌, arith, below_more}
 use borrow.Author.Tests.{both_ways}
 use Rattle.rack.specs.Racks.{channel_count}
 use Rattle.routing.specs.Sources.{one_nearer}

@@ -1,5 +1,5 @@
-use Rattle.std.proofs.Common.{◌≡◌, sym, refl, ap, ◌∙◌}
-use Rattle.routing.proofs.Sourced.{downhill_no_switch, downhill_no_host, downhill_no_way, downhill_there}
+use Rattle.std.proofs.Common.{sym}
+use Rattle.routing.proofs.Sourced.{downhill_no_switch}
 use Rattle.routing.proofs.downhill.DownhillForwardingSource.next_channel.Goals as goal
 
 pub returns-in_default : goal.returns-in_default

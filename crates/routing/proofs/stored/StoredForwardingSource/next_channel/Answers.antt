@@ -1,8 +1,8 @@
-use Rattle.std.proofs.Common.{◌≡◌, ◌+◌, ◌*◌, length, get_or, sym, refl, ap, ◌∙◌, arith}
+use Rattle.std.proofs.Common.{◌≡◌, ◌+◌, ◌*◌, sym, refl, ap, ◌∙◌, arith}
 use Rattle.std.proofs.lemmas.List.{get_or_past}
 use Rattle.rack.specs.Racks.{node_count}
 use Rattle.routing.specs.Sources.{entry_of}
-use Rattle.routing.proofs.Sourced.{stored_there, stored_no_switch, stored_no_host}
+use Rattle.routing.proofs.Sourced.{stored_there, stored_no_switch}
 use Rattle.routing.proofs.stored.StoredForwardingSource.next_channel.Goals as goal
 
 pub returns-in_default : goal.returns-in_default
