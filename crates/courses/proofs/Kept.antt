@@ -1,6 +1,6 @@
 -- The law holds after any course. Assumes nothing.
 use Rattle.std.proofs.Common.{◌≡◌, ℕ, ◌+◌, ◌<◌, Bool, true, false, ◌≢◌, ◌↔◌, List, [], ◌∷◌, ◌++◌, length, set, sum_by, filter, sym, refl, ap, ◌∙◌, subst, add-zero, zero-add, arith, length-set, get_or-set_other, get_or-set_same}
-use Rattle.std.specs.List.{AllByRecursion as All}
+use Rattle.std.specs.List.{AllByRecursion}
 use Rattle.std.proofs.lemmas.List.Elements.{filter-append}
 use Rattle.std.proofs.ByRecursion.{All-weaker}
 use Rattle.std.proofs.lemmas.List.{append-nil, append_assoc}
@@ -32,8 +32,8 @@ left_more (taken p) rs = refl
 
 module _ {P : Type 0} (rules : Rules P) (count : ℕ) (path_of : P → List ℕ) (routed : Routed rules count path_of) where
   -- what a first packet finds ahead
-  first_placed : (q : Queues P) (x : ℕ) (p : P) (rest : List P) → Placed rules path_of q → at q x ≡ p ∷ rest → All (OnWay rules path_of x) (p ∷ rest)
-  first_placed q x p rest placed e = subst (All (OnWay rules path_of x)) e (placed x)
+  first_placed : (q : Queues P) (x : ℕ) (p : P) (rest : List P) → Placed rules path_of q → at q x ≡ p ∷ rest → AllByRecursion (OnWay rules path_of x) (p ∷ rest)
+  first_placed q x p rest placed e = subst (AllByRecursion (OnWay rules path_of x)) e (placed x)
 
   -- what answers say of the queues before and after
   record Kept (q : Queues P) (rs : List (Event P)) (q' : Queues P) : Type 0 where
@@ -97,7 +97,7 @@ module _ {P : Type 0} (rules : Rules P) (count : ℕ) (path_of : P → List ℕ)
       q₁ : Queues P
       q₁ = set q x rest
 
-      on : All (OnWay rules path_of x) (p ∷ rest)
+      on : AllByRecursion (OnWay rules path_of x) (p ∷ rest)
       on = first_placed q x p rest placed m.first
 
       c : Way rules count p on.0.first (path_of p)
@@ -138,7 +138,7 @@ module _ {P : Type 0} (rules : Rules P) (count : ℕ) (path_of : P → List ℕ)
       rest : List P
       rest = m.rest
 
-      on : All (OnWay rules path_of x) (p ∷ rest)
+      on : AllByRecursion (OnWay rules path_of x) (p ∷ rest)
       on = first_placed q x p rest placed m.first
 
       c : Way rules count p on.0.first (path_of p)
@@ -189,7 +189,7 @@ module _ {P : Type 0} (rules : Rules P) (count : ℕ) (path_of : P → List ℕ)
   course_kept placed (done {q}) = none_kept q placed
   course_kept placed (then {q} {q'} {q''} {e = a} {es = rs} s r) = let k = step_kept q placed s in more_kept q q' q'' a rs k (course_kept k.placed r)
 
-  some_hops : (q : Queues P) → Placed rules path_of q → (x : ℕ) → All (λ p. 0 < ahead (path_of p) (0 + x)) (at q x)
+  some_hops : (q : Queues P) → Placed rules path_of q → (x : ℕ) → AllByRecursion (λ p. 0 < ahead (path_of p) (0 + x)) (at q x)
   some_hops q placed x = rw zero-add (All-weaker (OnWay rules path_of x) (λ p. 0 < ahead (path_of p) x) (λ p o. o.some_ahead) (at q x) (placed x))
 
   law : (q q' : Queues P) (events : List (Event P)) → length q ≡ count → Placed rules path_of q → Course rules q events q' → Law rules path_of q events q'

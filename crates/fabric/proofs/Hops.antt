@@ -1,6 +1,6 @@
 -- The numbers of a path's virtual channels, hop by hop. Assumes nothing.
 use Rattle.std.proofs.Common.{◌≡◌, ℕ, zero, suc, ◌+◌, ◌<◌, ◌≤◌, ◌⊎◌, List, [], ◌∷◌, length, get_or, Some, None, Option, sym, refl, ap, ◌∙◌, inl, inr, ⊎_elim, add-zero, add-suc, suc-add, arith}
-use Rattle.std.specs.List.{AllByRecursion as All}
+use Rattle.std.specs.List.{AllByRecursion}
 use Rattle.routing.specs.Paths.{Routing, Hop, hop_at}
 use Rattle.routing.proofs.Hops.{some_none, some_same, gone}
 use Rattle.checking.specs.Plans.{virtual}
@@ -30,11 +30,11 @@ module _ (g : Routing) (c v level : ℕ) where
   L i n = hops_on g c v level i n
 
   -- what holds of each hop holds of each number
-  pub all_hops : (Q : ℕ → Type 0) (i n : ℕ) → ((j : ℕ) (h : Hop) → i ≤ j → H j ≡ Some h → Q (virtual h)) → All Q (L i n)
+  pub all_hops : (Q : ℕ → Type 0) (i n : ℕ) → ((j : ℕ) (h : Hop) → i ≤ j → H j ≡ Some h → Q (virtual h)) → AllByRecursion Q (L i n)
   all_hops Q i zero f = tt
   all_hops Q i (suc n) f = go (H i) refl (all_hops Q (suc i) n (λ j k le. f j k (omega arith)))
     where
-      go : (o : Option Hop) → H i ≡ o → All Q (L (suc i) n) → All Q (then_on o (L (suc i) n))
+      go : (o : Option Hop) → H i ≡ o → AllByRecursion Q (L (suc i) n) → AllByRecursion Q (then_on o (L (suc i) n))
       go None e rest = tt
       go (Some h) e rest = (f i h (omega arith) e, rest)
 

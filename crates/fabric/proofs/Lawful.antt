@@ -1,7 +1,7 @@
 -- Courses under a sound plan keep the law. Assumes nothing.
 use Rattle.std.proofs.Common.{◌≡◌, ℕ, ◌≤◌, Bool, true, eqb, List, [], ◌∷◌, ◌++◌, map, length, filter, sym, refl, ap, ◌∙◌, subst, arith, eqb-true}
 use lib.ListN.{length-map}
-use Rattle.std.specs.List.{AllByRecursion as All}
+use Rattle.std.specs.List.{AllByRecursion}
 use Rattle.std.proofs.lemmas.List.{map-append}
 use Rattle.routing.specs.declared.pair.Pair.{Pair}
 use Rattle.routing.proofs.Tests.{both_fst, both_snd}
@@ -98,7 +98,7 @@ module _ (s : Setup) (deep : 1 ≤ s.depth) where
 
     pub from_empty : NothingWaits s.routes.rack before → LawfulFromEmpty s es after
     from_empty none =
-        let placed : AllInPlace s before = λ x l. subst (All (InPlace s x)) (sym (none x l)) tt in
+        let placed : AllInPlace s before = λ x l. subst (AllByRecursion (InPlace s x)) (sym (none x l)) tt in
         let w = lawful placed in
         let long : n ≤ length (contents_of before) = omega (arith, plan.ready.1.1, length-map before contents) in
         let empty = stand_none n (contents_of before) long none in

@@ -2,7 +2,7 @@
 use Rattle.std.proofs.Common.{◌≡◌, ℕ, zero, suc, ◌<◌, ◌≤◌, List, [], ◌∷◌, ◌++◌, map, length, get_or, take, set, sym, refl, ap, ◌∙◌, ⊎_elim, arith, length-take, get_or-take}
 use lib.ListN.{length-map}
 use lib.Seq.{map-set, take-set-lt}
-use Rattle.std.specs.List.{AllByRecursion as All}
+use Rattle.std.specs.List.{AllByRecursion}
 use Rattle.std.proofs.lemmas.List.{get_or-map, get_or_past, map-append}
 use Rattle.std.proofs.ByRecursion.{All-weaker}
 use Rattle.std.proofs.lemmas.Bool.{cases_lt}
@@ -29,20 +29,20 @@ some_at (z ∷ xs) zero x l e = omega (arith, ap (ahead (z ∷ xs)) (sym e), ahe
 some_at (z ∷ xs) (suc j) x l e =
     ⊎_elim (λ t. omega (arith, t.1)) (λ t. omega (arith, t.1, some_at xs j x (omega arith) e)) (ahead_cases z xs x)
 
-pub all_any : {X : Type 0} (Q : X → Type 0) → ((x : X) → Q x) → (xs : List X) → All Q xs
+pub all_any : {X : Type 0} (Q : X → Type 0) → ((x : X) → Q x) → (xs : List X) → AllByRecursion Q xs
 all_any Q f [] = tt
 all_any Q f (x ∷ xs) = (f x, all_any Q f xs)
 
 -- what holds in the first n queues, said of every queue
 module _ (n : ℕ) (I : ℕ → Packet → Type 0) (q : Queues Packet) where
-  pub bounded : ((z : ℕ) → z < n → All (I z) (at q z)) → (z : ℕ) → All (λ p. z < n → I z p) (at q z)
+  pub bounded : ((z : ℕ) → z < n → AllByRecursion (I z) (at q z)) → (z : ℕ) → AllByRecursion (λ p. z < n → I z p) (at q z)
   bounded h z =
       ⊎_elim
       (λ (l : z < n). All-weaker (I z) (λ p. z < n → I z p) (λ p i m. i) (at q z) (h z l))
       (λ (l : n ≤ z). all_any (λ p. z < n → I z p) (λ p m. absurd (omega arith)) (at q z))
       (cases_lt z n)
 
-  pub unbounded : ((z : ℕ) → All (λ p. z < n → I z p) (at q z)) → (z : ℕ) → z < n → All (I z) (at q z)
+  pub unbounded : ((z : ℕ) → AllByRecursion (λ p. z < n → I z p) (at q z)) → (z : ℕ) → z < n → AllByRecursion (I z) (at q z)
   unbounded h z l = All-weaker (λ p. z < n → I z p) (I z) (λ p i. i l) (at q z) (h z)
 
 -- the first n queues, as they are told

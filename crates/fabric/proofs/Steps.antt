@@ -1,7 +1,7 @@
 -- Each call on the fabric under a sound plan is a step of the law of courses, and keeps every packet in its place. Assumes nothing.
 use Rattle.std.proofs.Common.{◌≡◌, ℕ, suc, ◌+◌, ◌*◌, ◌/◌, ◌%◌, ◌<◌, ◌≤◌, Bool, true, false, cond, eqb, List, [], ◌∷◌, ◌++◌, map, length, get_or, set, Some, None, Option, sym, refl, ap, ◌∙◌, subst, inl, inr, ⊎_elim, zero-add, arith, length-set, eqb-true}
 use lib.ListN.{length-map}
-use Rattle.std.specs.List.{AllByRecursion as All}
+use Rattle.std.specs.List.{AllByRecursion}
 use Rattle.std.proofs.ByRecursion.{All-map, All-weaker}
 use Rattle.std.proofs.lemmas.Bool.{cases_lt}
 use Rattle.rack.specs.Racks.{channel_count, head, Leaving}
@@ -138,13 +138,13 @@ module _ (s : Setup) (ranged : Ranged s.lanes) (sound : Sound s.routes s.levels 
     stand_placed x =
         ⊎_elim
         (λ (l : x < n).
-        subst (All (OnWay (rules s) (path_of s) x)) (sym (stand_at n q long_q x l))
+        subst (AllByRecursion (OnWay (rules s) (path_of s) x)) (sym (stand_at n q long_q x l))
         (All-map (OnWay (rules s) (path_of s) x) delivery (at q x) (All-weaker (InPlace s x) (λ p. OnWay (rules s) (path_of s) x (delivery p)) (on_way x) (at q x) (placed x l))))
-        (λ (l : n ≤ x). subst (All (OnWay (rules s) (path_of s) x)) (sym (stand_past n q long_q x l)) tt)
+        (λ (l : n ≤ x). subst (AllByRecursion (OnWay (rules s) (path_of s) x)) (sym (stand_past n q long_q x l)) tt)
         (cases_lt x n)
 
-    first_placed : (x : ℕ) (p : Packet) (rest : List Packet) → x < n → at q x ≡ p ∷ rest → All (InPlace s x) (p ∷ rest)
-    first_placed x p rest l e = subst (All (InPlace s x)) e (placed x l)
+    first_placed : (x : ℕ) (p : Packet) (rest : List Packet) → x < n → at q x ≡ p ∷ rest → AllByRecursion (InPlace s x) (p ∷ rest)
+    first_placed x p rest l e = subst (AllByRecursion (InPlace s x)) e (placed x l)
 
     first_stands : (x : ℕ) (p : Packet) (rest : List Packet) → x < n → at q x ≡ p ∷ rest → at (standing s qs) x ≡ delivery p ∷ map delivery rest
     first_stands x p rest l e = stand_at n q long_q x l ∙ ap (map delivery) e
@@ -152,7 +152,7 @@ module _ (s : Setup) (ranged : Ranged s.lanes) (sound : Sound s.routes s.levels 
     count_stands : (x : ℕ) → x < n → length (at (standing s qs) x) ≡ length (at q x)
     count_stands x l = ap length (stand_at n q long_q x l) ∙ length-map (at q x) delivery
 
-    everywhere : (z : ℕ) → All (λ p. z < n → InPlace s z p) (at q z)
+    everywhere : (z : ℕ) → AllByRecursion (λ p. z < n → InPlace s z p) (at q z)
     everywhere = bounded n (InPlace s) q placed
 
     -- what a call made of the queues
@@ -164,8 +164,8 @@ module _ (s : Setup) (ranged : Ranged s.lanes) (sound : Sound s.routes s.levels 
     sized : (after : List Queue) (q' : Queues Packet) → contents_of after ≡ q' → length q' ≡ length q → n ≤ length after
     sized after q' e l = omega (arith, long_q, ap length e, length-map after contents)
 
-    settle : (after : List Queue) (q' : Queues Packet) → contents_of after ≡ q' → ((z : ℕ) → All (λ p. z < n → InPlace s z p) (at q' z)) → AllInPlace s after
-    settle after q' e h = subst (λ r. (z : ℕ) → z < n → All (InPlace s z) (at r z)) (sym e) (unbounded n (InPlace s) q' h)
+    settle : (after : List Queue) (q' : Queues Packet) → contents_of after ≡ q' → ((z : ℕ) → AllByRecursion (λ p. z < n → InPlace s z p) (at q' z)) → AllInPlace s after
+    settle after q' e h = subst (λ r. (z : ℕ) → z < n → AllByRecursion (InPlace s z) (at r z)) (sym e) (unbounded n (InPlace s) q' h)
 
     admit_made : (p : Pair) (t : ℕ) (after : List Queue) → Admits s qs p t after → Made (admitted (record { pair = p; tag = t })) after
     admit_made p t after m =

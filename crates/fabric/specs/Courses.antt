@@ -1,6 +1,6 @@
 -- What holds after any course of calls under a sound plan. Assumes nothing.
 use Rattle.std.specs.Prelude.{◌≡◌, ℕ, zero, suc, ◌+◌, ◌<◌, Bool, ◌&&◌, ◌⊎◌, ◌↔◌, List, [], ◌∷◌, ◌++◌, map, length, take, Some, None, sum_by, filter, Option, ◌==◌, nat_eq, slice_index_or}
-use Rattle.std.specs.List.{AllByRecursion as All}
+use Rattle.std.specs.List.{AllByRecursion}
 use Rattle.rack.specs.declared.rack.Rack.{Rack}
 use Rattle.rack.specs.Racks.{channel_count, tail}
 use Rattle.routing.specs.declared.pair.Pair.{Pair}
@@ -77,7 +77,7 @@ pub record InPlace (s : Setup) (x : ℕ) (p : Packet) : Type 0 where
 
 -- every packet that waits does so in its place
 abbrev pub AllInPlace : Setup → List Queue → Type 0
-AllInPlace s qs = (x : ℕ) → x < queue_count s → All (InPlace s x) (at (contents_of qs) x)
+AllInPlace s qs = (x : ℕ) → x < queue_count s → AllByRecursion (InPlace s x) (at (contents_of qs) x)
 
 -- who waits in each queue of the rack, the first to leave first
 abbrev pub standing : Setup → List Queue → Queues Delivery

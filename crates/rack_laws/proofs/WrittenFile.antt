@@ -1,6 +1,6 @@
 -- Reading the file written out from tables that keep the rules. Assumes nothing.
 use Rattle.std.proofs.Common.{◌≡◌, ℕ, ◌+◌, ◌-◌, ◌*◌, ◌/◌, ◌<◌, ◌≤◌, cond, eqb, List, [], ◌∷◌, ◌++◌, length, get_or, take, drop, Some, Ok, Option, Result, sym, refl, ap, ◌∙◌, subst, inl, inr, ⊎_elim, arith, below_more}
-use Rattle.std.specs.List.{AllByRecursion as All}
+use Rattle.std.specs.List.{AllByRecursion}
 use Rattle.std.proofs.ByRecursion.{All-get_or, All-from_get_or, All-append}
 use Rattle.std.proofs.lemmas.List.{append-nil, append_assoc, length-append, length_push, drop-append-le, drop_all, take-append-le, take_all, get_or_past, get_or_append_left, get_or-append-add}
 use Rattle.std.proofs.lemmas.Bool.{cases_eq, cases_lt, cond_both}
@@ -84,7 +84,7 @@ length_cables (c ∷ cs) = omega (arith, length_cables cs, length-append (cable_
 -- the node records, after those of the nodes in done
 read_nodes :
     (limits : Limits) (f before after kinds done : List ℕ) → f ≡ before ++ (node_records (length done) kinds ++ after) → length before ≡ 8 * length done →
-    All (λ k. (1 ≤ k) × (k ≤ 2)) kinds → length done + length kinds ≤ limits.nodes → Stage limits f (length done) (just done) → Stage limits f (length done + length kinds) (just (done ++ kinds))
+    AllByRecursion (λ k. (1 ≤ k) × (k ≤ 2)) kinds → length done + length kinds ≤ limits.nodes → Stage limits f (length done) (just done) → Stage limits f (length done + length kinds) (just (done ++ kinds))
 read_nodes limits f before after [] done is at known few stage =
     subst (λ n. Stage limits f n (just (done ++ []))) (omega arith) (subst (λ l. Stage limits f (length done) (just l)) (sym (append-nil done)) stage)
 read_nodes limits f before after (kind ∷ kinds) done is at known few stage =
@@ -117,7 +117,7 @@ free_of_before done rest c apart =
 -- the cable records, after those of the nodes and of the cables in done
 read_cables :
     (limits : Limits) (f before nodes : List ℕ) (cs done : List Cable) → f ≡ before ++ cable_records cs → length before ≡ 8 * (length nodes + length done) →
-    All (JoinsPorts nodes) cs → Apart (done ++ cs) → length done + length cs ≤ limits.cables → Stage limits f (length nodes + length done) (with_cables nodes done) →
+    AllByRecursion (JoinsPorts nodes) cs → Apart (done ++ cs) → length done + length cs ≤ limits.cables → Stage limits f (length nodes + length done) (with_cables nodes done) →
     Stage limits f (length nodes + (length done + length cs)) (with_cables nodes (done ++ cs))
 read_cables limits f before nodes [] done is at joined apart few stage =
     subst (λ n. Stage limits f n (with_cables nodes (done ++ []))) (omega arith) (subst (λ l. Stage limits f (length nodes + length done) (with_cables nodes l)) (sym (append-nil done)) stage)
@@ -137,11 +137,11 @@ read_cables limits f before nodes (c ∷ cs) done is at joined apart few stage =
 abbrev Byte : ℕ → Type 0
 Byte b = b < 256
 
-node_bytes : (v kind : ℕ) → v < 65536 → All Byte (node_record v kind)
+node_bytes : (v kind : ℕ) → v < 65536 → AllByRecursion Byte (node_record v kind)
 node_bytes v kind small =
     (cond_both (eqb kind 1) 72 83 Byte (λ e. omega arith) (λ e. omega arith), (omega arith, (omega arith, (omega arith, (omega arith, (omega arith, (omega arith, (omega arith, tt))))))))
 
-nodes_bytes : (v : ℕ) (kinds : List ℕ) → v + length kinds ≤ 65536 → All Byte (node_records v kinds)
+nodes_bytes : (v : ℕ) (kinds : List ℕ) → v + length kinds ≤ 65536 → AllByRecursion Byte (node_records v kinds)
 nodes_bytes v [] small = tt
 nodes_bytes v (kind ∷ kinds) small = All-append Byte (node_record v kind) (node_records (v + 1) kinds) (node_bytes v kind (omega arith)) (nodes_bytes (v + 1) kinds (omega arith))
 
@@ -160,17 +160,17 @@ port_small nodes e few has = (
   omega (arith, has.1, ports_few (get_or nodes e.node.0 0)),
 )
 
-cable_bytes : (nodes : List ℕ) (c : Cable) → length nodes ≤ 128 → JoinsPorts nodes c → All Byte (cable_record c)
+cable_bytes : (nodes : List ℕ) (c : Cable) → length nodes ≤ 128 → JoinsPorts nodes c → AllByRecursion Byte (cable_record c)
 cable_bytes nodes c few joins =
     let a = port_small nodes c.first few joins.0 in
     let b = port_small nodes c.second few joins.1 in
     (omega arith, (omega (arith, a.0), (omega arith, (a.1, (omega (arith, b.0), (omega arith, (b.1, (omega arith, tt))))))))
 
-cables_bytes : (nodes : List ℕ) (cs : List Cable) → length nodes ≤ 128 → All (JoinsPorts nodes) cs → All Byte (cable_records cs)
+cables_bytes : (nodes : List ℕ) (cs : List Cable) → length nodes ≤ 128 → AllByRecursion (JoinsPorts nodes) cs → AllByRecursion Byte (cable_records cs)
 cables_bytes nodes [] few joined = tt
 cables_bytes nodes (c ∷ cs) few joined = All-append Byte (cable_record c) (cable_records cs) (cable_bytes nodes c few joined.0) (cables_bytes nodes cs few joined.1)
 
-bytes_at : (xs : List ℕ) → All Byte xs → (k : ℕ) → get_or xs k 0 < 256
+bytes_at : (xs : List ℕ) → AllByRecursion Byte xs → (k : ℕ) → get_or xs k 0 < 256
 bytes_at xs all k =
     ⊎_elim
     (λ (within : k < length xs). All-get_or Byte xs k 0 within all)
@@ -181,7 +181,7 @@ module _ (limits : Limits) (nodes : List ℕ) (cables : List Cable) (rules : Kee
   abbrev file : List ℕ
   file = written nodes cables
 
-  joined : All (JoinsPorts nodes) cables
+  joined : AllByRecursion (JoinsPorts nodes) cables
   joined = All-from_get_or (JoinsPorts nodes) cables none rules.2
 
   long : length file ≡ 8 * (length nodes + length cables)
