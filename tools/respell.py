@@ -6,6 +6,7 @@ usage: tools/respell.py [--list]      at the top of the repository, once, after 
 A name of an .antt file that has a dash is a name of the repository if one of its .antt files defines it: at a signature
 (but not at that of a goal), as a field or variant, by `let`, or by `as`. Where it begins with a capital letter, and so is a fact,
 a type or a variant, its words are put together in camel case, as Host-at, HostAt; else in snake case, as node-count, node_count.
+(port.py puts an underscore into a few names that begin with a capital letter; they go into camel case too.)
 Names of the library, and those that the check makes for the steps and goals of a function, are left as they are.
 --list prints the names and writes nothing.
 """
@@ -29,6 +30,10 @@ def texts(endings):
                 yield os.path.join(folder, f)
 
 
+def is_to_turn(name):
+    return "-" in name or (name[0].isupper() and "_" in name)
+
+
 def own():
     names = set()
     for path in texts((".antt",)):
@@ -36,16 +41,16 @@ def own():
             for line in f:
                 line = re.sub(r"--.*", "", line)
                 m = SIGNED.match(line)
-                if m and "-" in m[1] and not re.match(r"\s*goal\.", m[2]):
+                if m and is_to_turn(m[1]) and not re.match(r"\s*goal\.", m[2]):
                     names.add(m[1])
-                names |= {a for a in ALIAS.findall(line) if "-" in a}
+                names |= {a for a in ALIAS.findall(line) if is_to_turn(a)}
     return names
 
 
 def new(name):
     if name in APART:
         return APART[name]
-    words = name.split("-")
+    words = re.split("[-_]", name) if name[0].isupper() else name.split("-")
     if name[0].isupper():
         return words[0] + "".join(w[:1].upper() + w[1:] for w in words[1:])
     return "_".join(words)

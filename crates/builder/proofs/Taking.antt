@@ -31,8 +31,8 @@ module _ (r : Rack) (route : ℕ → ℕ → Option ℕ) (count : ℕ) where
 
   -- what is no host sends nothing
   pub receivers_none : (u n : ℕ) (was : Tables) → (Host r u → ⊥) → Receivers r route count u n was was
-  receivers_none u zero was no-host = refl
-  receivers_none u (suc n) was no-host = (was, receivers_none u n was no-host, inr (λ p. no-host p.0, refl))
+  receivers_none u zero was no_host = refl
+  receivers_none u (suc n) was no_host = (was, receivers_none u n was no_host, inr (λ p. no_host p.0, refl))
 
   -- what was taken on the way
   pub taken_on_way : (u n v : ℕ) (was now : Tables) → v < n → Receivers r route count u n was now → (mid : Tables) × ((next : Tables) × (Receivers r route count u v was mid × Taken r route count u v mid next))

@@ -120,7 +120,7 @@ module _ {P : Type 0} (rules : Rules P) (count : ℕ) (path_of : P → List ℕ)
           let first : filter test (at q x) ≡ p ∷ filter test (at q₂ x) = ap (filter test) m.first ∙ kept_first test p rest true e ∙ ap (λ l. p ∷ filter test l) (sym at_x) in
           let pushed : filter test (at q₂ y) ≡ filter test (at q y) ++ (p ∷ []) = ap (filter test) at_y ∙ filter-append test (at q y) (p ∷ []) ∙ ap (λ l. filter test (at q y) ++ l) (kept_first test p [] true e) in
           let row = row_forward (λ z. filter test (at q z)) (λ z. filter test (at q₂ z)) c x y on.0.some_ahead m.leads first pushed
-          (λ z ne-x ne-y. ap (filter test) (get_or-set_other q₁ y z (at q₁ y ++ (p ∷ [])) [] ne-y ∙ get_or-set_other q x z rest [] ne-x)) in
+          (λ z ne_x ne_y. ap (filter test) (get_or-set_other q₁ y z (at q₁ y ++ (p ∷ [])) [] ne_y ∙ get_or-set_other q x z rest [] ne_x)) in
           subst (λ ys. waiting test ys q ≡ waiting test ys q₂) r (sym row)
 
       aside : (test : P → Bool) (xs : List ℕ) → test p ≡ false → waiting test xs q ≡ waiting test xs (push q₁ y p)

@@ -17,7 +17,7 @@ use Rattle.fabric.specs.declared.fault.FabricFault.{FabricFault}
 use Rattle.fabric.specs.declared.call.Call.TheVariants.{Admit, Forward, Take}
 use Rattle.fabric.specs.declared.call.Answer.TheVariants.{Admitted, Forwarded, Taken, Refused}
 use Rattle.fabric.specs.Packets.{contents_of, moved, delivery}
-use Rattle.fabric.specs.Calls.{Setup, Admits, AdmitRefused, Goes_on, CanForward, Forwards, ForwardRefused, CanTake, Takes, TakeRefused}
+use Rattle.fabric.specs.Calls.{Setup, Admits, AdmitRefused, GoesOn, CanForward, Forwards, ForwardRefused, CanTake, Takes, TakeRefused}
 use Rattle.fabric.specs.Laws.{OneAnswer, ForwardAccepted, TakeAccepted}
 use Rattle.fabric.proofs.Questions.{one_stop, same_head, only_out, AdmitAsks, admit_fault, admit_stops, admit_passes, ForwardAsks, Tells, one_told, forward_stops, forward_passes, TakeAsks, take_stops, take_passes}
 
@@ -59,9 +59,9 @@ module _ (s : Setup) (qs : List Queue) where
   admit_both p t after f m a = let x = admit_stops s qs p f a in x.2.not (admit_passes s qs p t after m x.0)
 
   -- forward
-  pub same_goes : (x : ℕ) (p o : Packet) (h k : Hop) → p ≡ o → Goes_on s x p h → Goes_on s x o k → h ≡ k
+  pub same_goes : (x : ℕ) (p o : Packet) (h k : Hop) → p ≡ o → GoesOn s x p h → GoesOn s x o k → h ≡ k
   same_goes x p o h k same a b =
-      let b' : Goes_on s x p k = subst (λ z. Goes_on s x z k) (sym same) b in
+      let b' : GoesOn s x p k = subst (λ z. GoesOn s x z k) (sym same) b in
       let channel : h.channel ≡ k.channel = some_same h.channel k.channel (sym a.1 ∙ b'.1) in
       let lane : h.lane ≡ k.lane = a.3 ∙ ap (λ d. s.routes.lane (Prim.Native.Nat.◌/◌ x 8) d p.level.number) channel ∙ sym b'.3 in
       λ i. hop (channel i) (lane i)

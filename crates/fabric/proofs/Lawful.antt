@@ -91,7 +91,7 @@ module _ (s : Setup) (deep : 1 ≤ s.depth) where
             stirs s plan.ready.0 plan.sound after e.long e.placed (plan.ready.0, (plan.ready.1.0, e.long))
             (law.alive x (delivery w.1) (map delivery w.2) (stand_at n (contents_of after) long_after x w.3 ∙ ap (map delivery) w.4));
         counted = law.counted;
-        settled = (λ none. law.settled.0 (none_told none), λ zero-ahead. told_none (law.settled.1 zero-ahead));
+        settled = (λ none. law.settled.0 (none_told none), λ zero_ahead. told_none (law.settled.1 zero_ahead));
         drained = λ no_more. (λ none. (law.drained no_more).0 (none_told none), λ all_moved. told_none ((law.drained no_more).1 all_moved));
         ordered = in_order;
       }

@@ -19,7 +19,7 @@ use Rattle.fabric.specs.declared.queue.Queue.{Queue}
 use Rattle.fabric.specs.declared.fault.FabricFault.{FabricFault}
 use Rattle.fabric.specs.declared.fault.FabricFault.TheVariants.{Lanes, Depth, Tables, NoPair, Level, NoQueue, Empty, Misplaced, Walk, Full}
 use Rattle.fabric.specs.Packets.{contents_of, next_hop}
-use Rattle.fabric.specs.Calls.{Setup, queue_count, EnoughFor, level_for, PairHere, Admits, AdmitRefused, First, Goes_on, CanForward, ForwardRefused, CanTake, TakeRefused}
+use Rattle.fabric.specs.Calls.{Setup, queue_count, EnoughFor, level_for, PairHere, Admits, AdmitRefused, First, GoesOn, CanForward, ForwardRefused, CanTake, TakeRefused}
 
 -- the questions before k are answered yes, and k is not
 pub record Stops (A : ℕ → Type 0) (k : ℕ) : Type 0 where
@@ -175,12 +175,12 @@ module _ (s : Setup) (qs : List Queue) where
     up_to_turn : (p : Packet) (rest : List Packet) (d : ℕ) → First s qs x p rest → enters_switch s.routes.rack (x / 8) ≡ true → Named x p d → turns s.routes.rack (x / 8) d ≡ true → (j : ℕ) → j < 7 → F j
     up_to_turn p rest d h sw n t = one_more F 6 (up_to_named p rest d h sw n) (for_named (λ o e. turns s.routes.rack (x / 8) e ≡ true) p d (heads p rest h) n t)
 
-    up_to_lane : (p : Packet) (rest : List Packet) (h : Hop) → First s qs x p rest → Goes_on s x p h → (j : ℕ) → j < 8 → F j
+    up_to_lane : (p : Packet) (rest : List Packet) (h : Hop) → First s qs x p rest → GoesOn s x p h → (j : ℕ) → j < 8 → F j
     up_to_lane p rest h first goes =
         one_more F 7 (up_to_turn p rest h.channel first goes.0 goes.1 goes.2)
         (for_named (λ o e. lane_to x o e < s.lanes) p h.channel (heads p rest first) goes.1 (omega (arith, goes.3, goes.4)))
 
-    same_queue : (p : Packet) (h : Hop) → Goes_on s x p h → 8 * h.channel + lane_to x p h.channel ≡ virtual h
+    same_queue : (p : Packet) (h : Hop) → GoesOn s x p h → 8 * h.channel + lane_to x p h.channel ≡ virtual h
     same_queue p h goes = omega (arith, goes.3)
 
     abbrev Stopped : FabricFault → Type 0

@@ -136,8 +136,8 @@ module _ (s : Setup) (ranged : Ranged s.lanes) (sound : Sound s.routes s.levels 
   abbrev pub HopIs : ℕ → Hop → Type 0
   HopIs i h = hop_at g out v level i ≡ Some h
 
-  pub path-is : path s p ≡ hops_on g out v level 0 (channel_count r)
-  path-is = ap (path_from s p) (out_is r u out pair.0 out_leaves)
+  pub path_is : path s p ≡ hops_on g out v level 0 (channel_count r)
+  path_is = ap (path_from s p) (out_is r u out pair.0 out_leaves)
 
   fine : FinePair g s.levels s.lanes u v
   fine = sound.pairs u v pair
@@ -231,19 +231,19 @@ module _ (s : Setup) (ranged : Ranged s.lanes) (sound : Sound s.routes s.levels 
     pub its_path : Path (rules s) d (8 * out) (path_of s d)
     its_path =
         let l = last_hop in
-        let q : path_of s d ≡ hops_on g out v level 0 (channel_count r) = ap (path s) its ∙ path-is in
+        let q : path_of s d ≡ hops_on g out v level 0 (channel_count r) = ap (path s) its ∙ path_is in
         let first : virtual (hop out 0) ≡ 8 * out = omega arith in
         subst (λ x. Path (rules s) d x (path_of s d)) first (subst (Path (rules s) d (virtual (hop out 0))) (sym q) (walks l.0 l.1 l.2 l.0 0 (channel_count r) (hop out 0) (omega arith) l.2.short refl))
 
   pub its_inside : AllByRecursion (λ x. x < queue_count s) (path s p)
-  its_inside = subst (AllByRecursion (λ x. x < queue_count s)) (sym path-is) (all_hops g out v level (λ x. x < queue_count s) 0 (channel_count r) (λ j h le e. omega (arith, below j h e, narrow j h e)))
+  its_inside = subst (AllByRecursion (λ x. x < queue_count s)) (sym path_is) (all_hops g out v level (λ x. x < queue_count s) 0 (channel_count r) (λ j h le e. omega (arith, below j h e, narrow j h e)))
 
   pub its_once : Once (path s p)
-  its_once = let l = last_hop in subst Once (sym path-is) (once g out v level 0 (channel_count r) (λ j k h o le. apart l.0 l.1 l.2 j k h o))
+  its_once = let l = last_hop in subst Once (sym path_is) (once g out v level 0 (channel_count r) (λ j k h o le. apart l.0 l.1 l.2 j k h o))
 
   pub its_follows : (x y : ℕ) → Next x y (path s p) → Follows g s.levels x y
   its_follows x y next =
-      let b = next_hops g out v level x y 0 (channel_count r) (subst (Next x y) path-is next) in
+      let b = next_hops g out v level x y 0 (channel_count r) (subst (Next x y) path_is next) in
       record { sender = u; receiver = v; place = b.0; one = b.1; other = b.2; pair = pair; uses = (out, out_leaves, b.3); then = (out, out_leaves, b.4); from = b.5; to = b.6 }
 
 -- a sound plan routes every packet

@@ -25,10 +25,10 @@ use Rattle.fabric.specs.declared.call.Call.TheVariants.{Admit, Forward, Take}
 use Rattle.fabric.specs.declared.call.Answer.{Answer}
 use Rattle.fabric.specs.declared.call.Answer.TheVariants.{Admitted, Forwarded, Taken, Refused}
 use Rattle.fabric.specs.Packets.{contents, contents_of, next_hop, moved, delivery}
-use Rattle.fabric.specs.Calls.{Setup, queue_count, Ready, level_for, PairHere, Admits, Goes_on, Forwards, Takes, Acts}
+use Rattle.fabric.specs.Calls.{Setup, queue_count, Ready, level_for, PairHere, Admits, GoesOn, Forwards, Takes, Acts}
 use Rattle.fabric.specs.Courses.{event, path, path_of, InPlace, AllInPlace, standing, Stirs}
 use Rattle.fabric.proofs.Hops.{at_place, of_place}
-use Rattle.fabric.proofs.Roads.{channel_of, hop_again, on_hop, rules, leads, pair_starts, out, out_leaves, only_out, HopIs, path-is, low, narrow, last_hop, not_later, leads_home, leads_on}
+use Rattle.fabric.proofs.Roads.{channel_of, hop_again, on_hop, rules, leads, pair_starts, out, out_leaves, only_out, HopIs, path_is, low, narrow, last_hop, not_later, leads_home, leads_on}
 use Rattle.fabric.proofs.Standing.{told_cons, some_at, bounded, unbounded, stand, stand_length, stand_at, stand_past, stand_set, stand_push}
 
 to_none : (o : Option Hop) → on_hop o ≡ home → ⊥
@@ -58,13 +58,13 @@ module _ (s : Setup) (ranged : Ranged s.lanes) (sound : Sound s.routes s.levels 
       let short : j < channel_count s.routes.rack = omega (arith, not_later s ranged sound p pair l.0 l.1 l.2 j h e, l.2.short) in
       let o = out s ranged sound p pair in
       let b = at_place s.routes o p.receiver.0 (level_for s p) 0 (channel_count s.routes.rack) j h (ap (hop_at s.routes o p.receiver.0 (level_for s p)) (zero-add j) ∙ e) short in
-      let is = path-is s ranged sound p pair in
+      let is = path_is s ranged sound p pair in
       (short, omega (arith, b.0, ap length is), ap (λ xs. get_or xs j 0) is ∙ b.1)
 
   place_hop : (p : Pair) (pair : PairHere s p) (j : ℕ) → j < length (path s p) → (h : Hop) × HopIs s ranged sound p pair j h × (get_or (path s p) j 0 ≡ virtual h)
   place_hop p pair j l =
       let o = out s ranged sound p pair in
-      let is = path-is s ranged sound p pair in
+      let is = path_is s ranged sound p pair in
       let b = of_place s.routes o p.receiver.0 (level_for s p) 0 (channel_count s.routes.rack) j (omega (arith, ap length is)) in
       (b.0, ap (hop_at s.routes o p.receiver.0 (level_for s p)) (sym (zero-add j)) ∙ b.1, ap (λ xs. get_or xs j 0) is ∙ b.2)
 
@@ -80,7 +80,7 @@ module _ (s : Setup) (ranged : Ranged s.lanes) (sound : Sound s.routes s.levels 
       record { now = b.0; is = b.1; number = sym i.place ∙ b.2 }
 
   -- where it goes on to is its next hop
-  next_here : (x : ℕ) (p : Packet) (i : InPlace s x p) (h : Hop) → Goes_on s x p h → (behind s.routes p.pair.receiver.0 (level_for s p.pair) (Some (here_of x p i).now) ≡ Some h) × HopIs s ranged sound p.pair i.pair (suc p.hop) h
+  next_here : (x : ℕ) (p : Packet) (i : InPlace s x p) (h : Hop) → GoesOn s x p h → (behind s.routes p.pair.receiver.0 (level_for s p.pair) (Some (here_of x p i).now) ≡ Some h) × HopIs s ranged sound p.pair i.pair (suc p.hop) h
   next_here x p i h goes =
       let w = here_of x p i in
       let k = w.now in
@@ -95,7 +95,7 @@ module _ (s : Setup) (ranged : Ranged s.lanes) (sound : Sound s.routes s.levels 
 
   -- a packet that is admitted is in its place
   enters_place : (p : Packet) (c : ℕ) → PairHere s p.pair → p.level.number ≡ level_for s p.pair → p.hop ≡ 0 → Leaving s.routes.rack p.pair.sender.0 c → InPlace s (8 * c) p
-  enters_place p c pair level hop-0 leaves =
+  enters_place p c pair level hop_0 leaves =
       let o = out s ranged sound p.pair pair in
       let b = hop_place p.pair pair 0 (hop o 0) refl in
       let same : c ≡ o = only_out s ranged sound p.pair pair c leaves in
@@ -103,11 +103,11 @@ module _ (s : Setup) (ranged : Ranged s.lanes) (sound : Sound s.routes s.levels 
         pair = pair;
         level = level;
         on_path = omega (arith, b.1);
-        place = ap (λ j. get_or (path s p.pair) j 0) hop-0 ∙ b.2 ∙ (let z : 8 * o + 0 ≡ 8 * c = omega arith in z);
+        place = ap (λ j. get_or (path s p.pair) j 0) hop_0 ∙ b.2 ∙ (let z : 8 * o + 0 ≡ 8 * c = omega arith in z);
       }
 
   -- and so is one that was forwarded
-  moves_place : (x : ℕ) (p : Packet) → InPlace s x p → (h : Hop) → Goes_on s x p h → InPlace s (virtual h) (moved p)
+  moves_place : (x : ℕ) (p : Packet) → InPlace s x p → (h : Hop) → GoesOn s x p h → InPlace s (virtual h) (moved p)
   moves_place x p i h goes =
       let b = hop_place p.pair i.pair (suc p.hop) h (next_here x p i h goes).1 in
       let few : channel_count s.routes.rack ≤ 512 = few_channels s.routes.rack in

@@ -161,8 +161,8 @@ NoneFirst s qs x (Walk f) = ⊥
 NoneFirst s qs x (Full p i) = ⊥
 
 -- the channel of queue x enters a switch, and behind it the source names the channel of the hop, which leaves that switch, and the map its lane, which is below the lane count
-abbrev pub Goes_on : Setup → ℕ → Packet → Hop → Type 0
-Goes_on s x p h =
+abbrev pub GoesOn : Setup → ℕ → Packet → Hop → Type 0
+GoesOn s x p h =
     (enters_switch s.routes.rack (x / 8) ≡ true)
     × (s.routes.next (x / 8) p.pair.receiver.0 ≡ Some h.channel) × (turns s.routes.rack (x / 8) h.channel ≡ true)
     × (h.lane ≡ s.routes.lane (x / 8) h.channel p.level.number) × (h.lane < s.lanes)
@@ -184,7 +184,7 @@ NoWayOn s x p (Full q i) = ⊥
 -- the first packet of queue x can go on to the queue of the hop, which has room
 pub record CanForward (s : Setup) (qs : List Queue) (x : ℕ) (p : Packet) (rest : List Packet) (h : Hop) : Type 0 where
   pub first : First s qs x p rest
-  pub goes : Goes_on s x p h
+  pub goes : GoesOn s x p h
   pub fits : length (at (contents_of qs) (virtual h)) < room s h.channel
 
 -- it comes last there, one hop further on
@@ -206,7 +206,7 @@ ForwardRefused s qs x Empty = NoneFirst s qs x Empty
 ForwardRefused s qs x (Misplaced q i) = (p : Packet) × (rest : List Packet) × First s qs x p rest × NoWayOn s x p (Misplaced q i)
 ForwardRefused s qs x (Walk f) = (p : Packet) × (rest : List Packet) × First s qs x p rest × NoWayOn s x p (Walk f)
 ForwardRefused s qs x (Full q i) =
-    (p : Packet) × (rest : List Packet) × (h : Hop) × First s qs x p rest × Goes_on s x p h
+    (p : Packet) × (rest : List Packet) × (h : Hop) × First s qs x p rest × GoesOn s x p h
     × (q ≡ p.pair) × (i ≡ next_hop p.hop) × (room s h.channel ≤ length (at (contents_of qs) (virtual h)))
 
 -- the first packet of queue x is at its receiver

@@ -143,8 +143,8 @@ module _ (r : Rack) (route : ℕ → ℕ → Option ℕ) (lanes levels : List �
         low_at (suc i) h on short = ⊎_elim (λ (x : (h.lane ≡ i) × (i + 2 < length path)). omega (arith, x.0, x.1)) (λ (x : (h.lane ≡ 0) × ((i ≡ 0) ⊎ (i + 2 ≡ length path))). omega (arith, x.0, range)) (lane_is i h on)
 
     pub built_rises : (i : ℕ) (h o : Hop) → OnPath full u v s i h → OnPath full u v s (suc i) o → Switch r (tail r h.channel) → Switch r (head r o.channel) → h.lane < o.lane
-    built_rises zero h o on then from_switch to-switch = absurd (host_no_switch r (tail r (get_or path 0 0)) first_host (subst (λ m. Switch r (tail r m)) (channel_at 0 h on) from_switch))
-    built_rises (suc i) h o on then from_switch to-switch =
+    built_rises zero h o on then from_switch to_switch = absurd (host_no_switch r (tail r (get_or path 0 0)) first_host (subst (λ m. Switch r (tail r m)) (channel_at 0 h on) from_switch))
+    built_rises (suc i) h o on then from_switch to_switch =
         ⊎_elim
         (λ (x : (o.lane ≡ suc i) × (suc i + 2 < length path)).
         ⊎_elim (λ (y : (h.lane ≡ i) × (i + 2 < length path)). omega (arith, x.0, y.0)) (λ (y : (h.lane ≡ 0) × ((i ≡ 0) ⊎ (i + 2 ≡ length path))). omega (arith, x.0, y.0)) (lane_is i h on))
@@ -153,7 +153,7 @@ module _ (r : Rack) (route : ℕ → ℕ → Option ℕ) (lanes levels : List �
         (λ (z : suc i ≡ 0). omega arith)
         (λ (e : suc i + 2 ≡ length path).
         let n : length path - 1 ≡ suc (suc i) = omega arith in
-        host_no_switch r (head r (get_or path (suc (suc i)) 0)) (subst (λ m. Host r (head r (get_or path m 0))) n last_host) (subst (λ m. Switch r (head r m)) (channel_at (suc (suc i)) o then) to-switch))
+        host_no_switch r (head r (get_or path (suc (suc i)) 0)) (subst (λ m. Host r (head r (get_or path m 0))) n last_host) (subst (λ m. Switch r (head r m)) (channel_at (suc (suc i)) o then) to_switch))
         x.1))
         (lane_is (suc i) o then)
 

@@ -177,7 +177,7 @@ bytes_at xs all k =
     (λ (past : length xs ≤ k). omega (arith, get_or_past xs k 0 past))
     (cases_lt k (length xs))
 
-module _ (limits : Limits) (nodes : List ℕ) (cables : List Cable) (rules : KeepsRules nodes cables) (node-room : length nodes ≤ limits.nodes) (cable-room : length cables ≤ limits.cables) where
+module _ (limits : Limits) (nodes : List ℕ) (cables : List Cable) (rules : KeepsRules nodes cables) (node_room : length nodes ≤ limits.nodes) (cable_room : length cables ≤ limits.cables) where
   abbrev file : List ℕ
   file = written nodes cables
 

@@ -10,16 +10,16 @@ use Rattle.routing.specs.Paths.{Routing, Hop, OnPath, EndsAtHop, Delivered}
 use Rattle.routing.specs.Walks.{hop_of, Walked, WalkStops}
 
 -- hop i of the path of the pair u, v at level s enters a switch
-abbrev pub Goes_on : Routing → ℕ → ℕ → ℕ → ℕ → Type 0
-Goes_on g u v s i = (h : Hop) × OnPath g u v s i h × (enters_switch g.rack h.channel ≡ true)
+abbrev pub GoesOn : Routing → ℕ → ℕ → ℕ → ℕ → Type 0
+GoesOn g u v s i = (h : Hop) × OnPath g u v s i h × (enters_switch g.rack h.channel ≡ true)
 
 -- as many channels as there are were walked, and the last of them enters a switch
 abbrev pub AllWalked : Routing → ℕ → ℕ → ℕ → Type 0
-AllWalked g u v s = (i : ℕ) × (i + 1 ≡ channel_count g.rack) × Goes_on g u v s i
+AllWalked g u v s = (i : ℕ) × (i + 1 ≡ channel_count g.rack) × GoesOn g u v s i
 
 -- a path that has not ended after as many channels as there are never ends: every hop of it enters a switch
 abbrev pub NeverEnds : Type 0
-NeverEnds = (g : Routing) (u v s : ℕ) → Host g.rack u → AllWalked g u v s → (i : ℕ) → Goes_on g u v s i
+NeverEnds = (g : Routing) (u v s : ℕ) → Host g.rack u → AllWalked g u v s → (i : ℕ) → GoesOn g u v s i
 
 -- so its packets never arrive
 abbrev pub NeverDelivered : Type 0

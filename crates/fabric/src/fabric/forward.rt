@@ -1,7 +1,7 @@
 // Packets from queue to queue.
 ghost use Rattle.std.specs.Prelude.{◌≡◌, ◌/◌, ◌<◌, MatchResult};
 ghost use Rattle.routing.specs.Paths.{routing, hop};
-ghost use Rattle.fabric.specs.Calls.{setup, Goes_on, NoWayOn, Forwards, ForwardRefused};
+ghost use Rattle.fabric.specs.Calls.{setup, GoesOn, NoWayOn, Forwards, ForwardRefused};
 
 use crate::fabric::Fabric;
 use crate::fault::FabricFault;
@@ -22,7 +22,7 @@ impl Fabric {
         from: VirtualChannel,
         packet: Packet,
     ) -> Result<Step, FabricFault>
-        ensures { MatchResult result (λ h. Goes_on (setup (routing plan.now.rack.now (S.ForwardingSource.route plan.now.source.now) (M.LaneMap.lanes plan.now.map.now)) plan.now.levels.now plan.now.lanes self.now.depth) from.0 packet (hop h.channel.0 h.lane.number)) (NoWayOn (setup (routing plan.now.rack.now (S.ForwardingSource.route plan.now.source.now) (M.LaneMap.lanes plan.now.map.now)) plan.now.levels.now plan.now.lanes self.now.depth) from.0 packet) }
+        ensures { MatchResult result (λ h. GoesOn (setup (routing plan.now.rack.now (S.ForwardingSource.route plan.now.source.now) (M.LaneMap.lanes plan.now.map.now)) plan.now.levels.now plan.now.lanes self.now.depth) from.0 packet (hop h.channel.0 h.lane.number)) (NoWayOn (setup (routing plan.now.rack.now (S.ForwardingSource.route plan.now.source.now) (M.LaneMap.lanes plan.now.map.now)) plan.now.levels.now plan.now.lanes self.now.depth) from.0 packet) }
     {
         let arriving = Channel(from.0 / 8);
         let Some(_) = plan.rack.switch_entered(arriving) else {
