@@ -2,7 +2,7 @@ pub mod Counts
 pub mod Pigeons
 pub mod Chains
 pub mod RingFree
-mod Clearing
+mod Tables
 mod Turning
 mod Settling
 mod Walking

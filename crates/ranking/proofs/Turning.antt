@@ -1,5 +1,5 @@
 -- One round: from point to point.
-use Rattle.std.proofs.Common.{◌≡◌, ℕ, suc, ◌+◌, ◌<◌, ◌≤◌, List, get_or, sym, refl, ap, ◌∙◌, subst, ⊎_elim, arith}
+use Rattle.std.proofs.Common.{◌≡◌, ℕ, suc, ◌+◌, ◌<◌, ◌≤◌, List, get_or, sym, ap, ◌∙◌, subst, ⊎_elim, arith}
 use native.Mathlib.Decide.{ℕ_discrete, dec_le}
 use Rattle.ranking.specs.Graphs.{Within, ChainTo}
 use Rattle.ranking.specs.Workings.{Level, Raised, Mid, Turned}
@@ -16,7 +16,6 @@ module _ (f : ℕ → ℕ → Type 0) (n : ℕ) (within : Within f n) where
         fed = λ y l e. absurd (omega (arith, v.low y l));
         kept = λ y l h. h;
         grown = λ y l. omega arith;
-        rest = λ k l. refl;
       }
 
   -- x is ranked already
@@ -30,7 +29,6 @@ module _ (f : ℕ → ℕ → Type 0) (n : ℕ) (within : Within f n) where
         fed = m.fed;
         kept = m.kept;
         grown = m.grown;
-        rest = m.rest;
       }
     where
       go : (z : ℕ) → z < x + 1 → r ≤ get_or t z 0 → Dec (z ≡ x) → (y : ℕ) → f z y → get_or t y 0 ≡ suc r
@@ -58,7 +56,6 @@ module _ (f : ℕ → ℕ → Type 0) (n : ℕ) (within : Within f n) where
         fed = λ y l e. ⊎_elim (λ o. let p = m.fed y l (sym o ∙ e) in (p.0, p.1, up p.0 p.2, p.3)) (λ o. (x, xl, up x a, o.1)) (d.only y);
         kept = λ y l h. m.kept y l (down y h);
         grown = λ y l. ⊎_elim (λ e. omega (arith, m.grown y l)) (λ e. omega (arith, m.grown y l, m.low y l)) (d.only y);
-        rest = λ k l. ⊎_elim (λ e. e ∙ m.rest k l) (λ e. absurd (omega (arith, (within x k e.1).1))) (d.only k);
       }
     where
       up : (z : ℕ) → r ≤ get_or t z 0 → r ≤ get_or u z 0
@@ -80,7 +77,6 @@ module _ (f : ℕ → ℕ → Type 0) (n : ℕ) (within : Within f n) where
         fed = m.fed;
         kept = m.kept;
         grown = m.grown;
-        rest = m.rest;
       }
     where
       -- a forerunner of y that ends a chain of r steps would have raised y

@@ -1,9 +1,8 @@
 -- The walk back along forerunners, and the ring that it closes.
-use Rattle.std.proofs.Common.{◌≡◌, ℕ, ◌+◌, ◌-◌, ◌<◌, ◌≤◌, true, eqb, ◌≢◌, List, length, get_or, set, sym, refl, ap, ◌∙◌, subst, arith, get_or-set_other, get_or-set_same, eq-eqb, ne_eqb, eqb-true}
+use Rattle.std.proofs.Common.{◌≡◌, ℕ, ◌+◌, ◌-◌, ◌<◌, ◌≤◌, true, eqb, ◌≢◌, List, length, get_or, set, sym, ap, ◌∙◌, subst, arith, get_or-set_other, get_or-set_same, eq-eqb, ne_eqb, eqb-true}
 use native.Mathlib.Decide.{ℕ_discrete}
 use Rattle.ranking.specs.Graphs.{IsRing, SameFrom, Ringed}
 use Rattle.ranking.specs.Workings.{Stuck, Closed, Gathered}
-use Rattle.ranking.proofs.Clearing.{Cleared}
 use Rattle.ranking.proofs.Counts.{count_less, count_le, alike}
 
 -- the points visited so far stand in t above top and below mark, in the order of the visit, and each is followed by the one before it
@@ -14,8 +13,8 @@ record Walk (f : ℕ → ℕ → Type 0) (n top mark : ℕ) (t : List ℕ) : Typ
   onto : (m : ℕ) → top < m → m < mark → (z : ℕ) × (z < n) × (get_or t z 0 ≡ m)
   fed : (y : ℕ) → y < n → top ≤ get_or t y 0 → (x : ℕ) × (x < n) × (top ≤ get_or t x 0) × f x y
 
--- as the walk comes to y: the table was s at first, and is t
-pub record Walking (f : ℕ → ℕ → Type 0) (n top mark y : ℕ) (s t : List ℕ) : Type 0 where
+-- as the walk comes to y
+pub record Walking (f : ℕ → ℕ → Type 0) (n top mark y : ℕ) (t : List ℕ) : Type 0 where
   walk : Walk f n top mark t
   pub inside : y < n
   fresh : get_or t y 0 ≡ top
@@ -23,7 +22,6 @@ pub record Walking (f : ℕ → ℕ → Type 0) (n top mark y : ℕ) (s t : List
   pub above : top < mark
   pub small : top ≤ n
   pub room : mark + alike top n t ≤ top + 1 + n
-  rest : SameFrom n s t
 
 -- u is t with v at y
 record Put (y v : ℕ) (t u : List ℕ) : Type 0 where
@@ -34,9 +32,9 @@ put_set : (y v : ℕ) (t : List ℕ) → y < length t → Put y v t (set t y v)
 put_set y v t l = record { here = get_or-set_same t y v 0 l; there = λ z ne. get_or-set_other t y z v 0 ne }
 
 module _ (f : ℕ → ℕ → Type 0) (n top : ℕ) where
-  pub walking_start : (first : ℕ) (t : List ℕ) → Stuck f n first top t → Walking f n top (top + 1) first t t
+  pub walking_start : (first : ℕ) (t : List ℕ) → first < n → get_or t first 0 ≡ top → Stuck f n top t → Walking f n top (top + 1) first t
   unfolding alike
-  walking_start first t k =
+  walking_start first t inside there k =
       record {
         walk = record {
           low = λ z l. omega (arith, k.low z l);
@@ -45,16 +43,15 @@ module _ (f : ℕ → ℕ → Type 0) (n top : ℕ) where
           onto = λ m a b. absurd (omega arith);
           fed = λ y l h. k.fed y l (omega (arith, k.low y l));
         };
-        inside = k.inside;
-        fresh = k.there;
+        inside = inside;
+        fresh = there;
         next = λ z l h. absurd (omega (arith, k.low z l));
         above = omega arith;
         small = k.small;
         room = omega (arith, count_le (λ i. eqb (get_or t i 0) top) n);
-        rest = λ i l. refl;
       }
 
-  module _ (mark y : ℕ) (s t : List ℕ) (k : Walking f n top mark y s t) where
+  module _ (mark y : ℕ) (t : List ℕ) (k : Walking f n top mark y t) where
     walk_put : (u : List ℕ) → Put y mark t u → Walk f n top (mark + 1) u
     walk_put u p =
         record {
@@ -102,9 +99,6 @@ module _ (f : ℕ → ℕ → Type 0) (n top : ℕ) where
             let other : q.0 ≢ y = λ e. (let w : get_or t q.0 0 ≡ top = was q.0 e in let v : get_or t q.0 0 ≡ m = q.2 in omega arith) in
             (q.0, q.1, p.there q.0 other ∙ q.2)
 
-    set_rest : SameFrom n s (set t y mark)
-    set_rest i il = let ne : i ≢ y = omega (arith, k.inside) in get_or-set_other t y i mark 0 ne ∙ k.rest i il
-
     module _ (room : n ≤ length t) where
       put : Put y mark t (set t y mark)
       put = put_set y mark t (omega (arith, k.inside))
@@ -127,7 +121,7 @@ module _ (f : ℕ → ℕ → Type 0) (n top : ℕ) where
       walk_feeds = (walk_put (set t y mark) put).fed y k.inside (omega (arith, put.here, k.above))
 
       -- the walk goes on to a forerunner x that is not marked
-      pub walking_on : (x : ℕ) → x < n → get_or (set t y mark) x 0 ≡ top → f x y → Walking f n top (mark + 1) x s (set t y mark)
+      pub walking_on : (x : ℕ) → x < n → get_or (set t y mark) x 0 ≡ top → f x y → Walking f n top (mark + 1) x (set t y mark)
       walking_on x xl e h =
           let u = set t y mark in
           let w = walk_put u put in
@@ -139,11 +133,10 @@ module _ (f : ℕ → ℕ → Type 0) (n top : ℕ) where
             above = omega (arith, k.above);
             small = k.small;
             room = omega (arith, k.room, fewer_left);
-            rest = set_rest;
           }
 
       -- the walk comes to a forerunner x that is marked
-      pub walk_closed : (x : ℕ) → x < n → top < get_or (set t y mark) x 0 → f x y → Closed f n (get_or (set t y mark) x 0) mark s (set t y mark)
+      pub walk_closed : (x : ℕ) → x < n → top < get_or (set t y mark) x 0 → f x y → Closed f n (get_or (set t y mark) x 0) mark (set t y mark)
       walk_closed x xl a h =
           let u = set t y mark in
           let w = walk_put u put in
@@ -160,10 +153,9 @@ module _ (f : ℕ → ℕ → Type 0) (n top : ℕ) where
                 let same_i : x ≡ i = w.apart x i xl il a (sym e) in
                 let same_j : y ≡ j = w.apart y j k.inside jl (omega (arith, put.here, k.above)) (put.here ∙ sym o) in
                 subst (λ z. f i z) same_j (subst (λ z. f z y) same_i h);
-            rest = set_rest;
           }
 
-module _ (f : ℕ → ℕ → Type 0) (n lo hi : ℕ) (s t : List ℕ) (k : Closed f n lo hi s t) where
+module _ (f : ℕ → ℕ → Type 0) (n lo hi : ℕ) (t : List ℕ) (k : Closed f n lo hi t) where
   -- points that stand at hi, hi - 1, .., lo are a ring
   marked_ring : (at : ℕ → ℕ) → ((i : ℕ) → i < hi + 1 - lo → (at i < n) × (get_or t (at i) 0 ≡ hi - i)) → IsRing f at (hi + 1 - lo)
   marked_ring at marked =
@@ -199,13 +191,13 @@ module _ (f : ℕ → ℕ → Type 0) (n lo hi : ℕ) (s t : List ℕ) (k : Clos
           (omega (arith, q.1), ap (λ j. get_or t j 0) here' ∙ e)
 
   -- the ring is written, and the marks are cleared
-  pub ringed : (len : ℕ) (u v w : List ℕ) → Gathered n lo hi t u v → Cleared n t w → len ≡ hi - lo + 1 → Ringed f n len s w u v
-  ringed len u v w o c e =
+  pub ringed : (len : ℕ) (s u v w : List ℕ) → Gathered n lo hi t u v → ((y : ℕ) → y < n → get_or w y 0 ≡ 0) → SameFrom n s w → len ≡ hi - lo + 1 → Ringed f n len s w u v
+  ringed len s u v w o zeros past e =
       let same : hi + 1 - lo ≡ len = omega (arith, k.marked.some) in
       record {
         ring = subst (λ l. IsRing f (λ i. get_or v i 0) l) same (gathered_ring u v o);
         short = omega (arith, k.marked.some, k.marked.short);
         ring_rest = subst (λ l. SameFrom l u v) same o.rest;
-        zeros = c.zeros;
-        rest = λ i l. c.rest i l ∙ k.rest i l;
+        zeros = zeros;
+        rest = past;
       }

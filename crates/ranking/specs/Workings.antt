@@ -1,13 +1,6 @@
 -- For the proofs alone: what the steps of the ranking keep true of its tables. The contract of `rank` needs none of this.
-use Rattle.std.specs.Prelude.{◌≡◌, ℕ, suc, ◌+◌, ◌-◌, ◌<◌, ◌≤◌, ◌⊎◌, List, length, slice_index, slice_index_or}
-use Rattle.ranking.specs.Graphs.{Within, ChainTo, SameFrom}
-
--- n is the count of points, at most 32767, f relates only those, and t has a place for each
-pub record Held (f : ℕ → ℕ → Type 0) (size n : ℕ) (t : List ℕ) : Type 0 where
-  pub all : n ≡ size
-  pub small : n ≤ 32767
-  pub within : Within f n
-  pub room : n ≤ length t
+use Rattle.std.specs.Prelude.{◌≡◌, ℕ, suc, ◌+◌, ◌-◌, ◌<◌, ◌≤◌, ◌⊎◌, List, slice_index}
+use Rattle.ranking.specs.Graphs.{ChainTo, SameFrom}
 
 -- each follower of x was raised to top, and nothing else
 pub record Raised (f : ℕ → ℕ → Type 0) (x top : ℕ) (t u : List ℕ) : Type 0 where
@@ -33,7 +26,6 @@ pub record Mid (f : ℕ → ℕ → Type 0) (n r x : ℕ) (s t : List ℕ) : Typ
   pub fed : Fed f n r (suc r) t
   pub kept : (y : ℕ) → y < n → r ≤ slice_index t y → r ≤ slice_index s y
   pub grown : (y : ℕ) → y < n → slice_index s y ≤ slice_index t y
-  pub rest : SameFrom n s t
 
 -- round r made t of s
 pub record Turned (f : ℕ → ℕ → Type 0) (n r : ℕ) (s t : List ℕ) : Type 0 where
@@ -41,12 +33,10 @@ pub record Turned (f : ℕ → ℕ → Type 0) (n r : ℕ) (s t : List ℕ) : Ty
   pub fed : Fed f n r (suc r) t
   pub kept : (y : ℕ) → y < n → r ≤ slice_index t y → r ≤ slice_index s y
   pub grown : (y : ℕ) → y < n → slice_index s y ≤ slice_index t y
-  pub rest : SameFrom n s t
 
--- first stands at top, and each point there has a forerunner there: no round ranks a further point
-pub record Stuck (f : ℕ → ℕ → Type 0) (n first top : ℕ) (t : List ℕ) : Type 0 where
-  pub inside : first < n
-  pub there : slice_index_or t first 0 ≡ top
+-- some point stands at top, and each that does has a forerunner there: no round ranks a further point
+pub record Stuck (f : ℕ → ℕ → Type 0) (n top : ℕ) (t : List ℕ) : Type 0 where
+  pub some : (y : ℕ) × (y < n) × (slice_index t y ≡ top)
   pub small : top ≤ n
   pub low : (y : ℕ) → y < n → slice_index t y ≤ top
   pub fed : Fed f n top top t
@@ -59,12 +49,11 @@ pub record Marked (n lo hi : ℕ) (t : List ℕ) : Type 0 where
   pub apart : (y z : ℕ) → y < n → z < n → lo ≤ slice_index t y → slice_index t y ≡ slice_index t z → y ≡ z
   pub onto : (m : ℕ) → lo ≤ m → m ≤ hi → (z : ℕ) × (z < n) × (slice_index t z ≡ m)
 
--- the points that are marked lo, .., hi in t, which was s, are a ring, from the last to the first
-pub record Closed (f : ℕ → ℕ → Type 0) (n lo hi : ℕ) (s t : List ℕ) : Type 0 where
+-- the points that are marked lo, .., hi in t are a ring, from the last to the first
+pub record Closed (f : ℕ → ℕ → Type 0) (n lo hi : ℕ) (t : List ℕ) : Type 0 where
   pub marked : Marked n lo hi t
   pub links : (y z : ℕ) → y < n → z < n → lo ≤ slice_index t z → slice_index t y ≡ slice_index t z + 1 → f y z
   pub closes : (y z : ℕ) → y < n → z < n → slice_index t y ≡ lo → slice_index t z ≡ hi → f y z
-  pub rest : SameFrom n s t
 
 -- each point below z that stands at lo or more in t is in v, at its distance from hi, and v is u from hi + 1 - lo on
 pub record Gathered (z lo hi : ℕ) (t u v : List ℕ) : Type 0 where

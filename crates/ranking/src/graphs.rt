@@ -10,11 +10,9 @@ pub trait Graph {
     // `follows g x y` says that the point `x` is followed by `y`.
     ghost follows: { Self → ℕ → ℕ → Type 0 };
 
-    // The count of points. The ranking marks points in the ranks table by numbers up to twice this.
+    // The count of points.
     fn points(&self) -> u16
-        ensures count { result ≡ size self.now }
-        ensures small { result ≤ 32767 }
-        ensures within { Within (follows self.now) result };
+        ensures { result ≡ size self.now };
 
     // The least follower of `x` from `from` on.
     fn next_follower(&self, x: u16, from: u16) -> Option<u16>
@@ -25,4 +23,10 @@ pub trait Graph {
     fn next_forerunner(&self, y: u16, from: u16) -> Option<u16>
         requires { y < size self.now }
         ensures { Next (λ x. follows self.now x y) from result };
+
+    // A graph relates only its own points.
+    ghost within: { (g : Self) → Within (follows g) (size g) };
+
+    // The ranking marks points in the ranks table by numbers up to twice their count.
+    ghost small: { (g : Self) → size g ≤ 32767 };
 }

@@ -1,25 +1,18 @@
 // Ranks of the points of any finite graph, or a ring of it. Tests and a benchmark stand in `ranking_bench`.
 #![tactic(auto)]
 
-ghost use Rattle.std.specs.Prelude.{◌≡◌, true, false, ◌↔◌, is_ok, Ok, Err};
+ghost use Rattle.std.specs.Prelude.{◌≡◌, length, true, ◌↔◌, is_ok, Ok, Err};
 ghost use Rattle.ranking.specs.declared.faults.RankFault.TheVariants.{Tables};
 ghost use Rattle.ranking.specs.Graphs.{Answered, Room, Short, NoRing, HaveRanks};
 
 mod faults;
+mod followers;
 mod graphs;
 mod rings;
 mod rounds;
 
 pub use faults::RankFault;
 pub use graphs::Graph;
-
-// Whether both tables have a place for each of `n` points.
-fn has_room(n: u16, ranks: &[u16], ring: &[u16]) -> bool
-    ensures room { result ≡ true → Room n ranks.now ring.now }
-    ensures short { result ≡ false → Short n ranks.now ring.now }
-{
-    ranks.len() >= n as usize && ring.len() >= n as usize
-}
 
 // Writes the rank of each point to `ranks` and answers the greatest, or writes a ring to `ring` and answers its length.
 //
@@ -33,15 +26,24 @@ pub fn rank<G: Graph>(graph: &G, ranks: &mut [u16], ring: &mut [u16]) -> Result<
     ensures ranked { Room (G.size graph.now) ranks.old ring.old → (is_ok result ≡ true ↔ NoRing (G.follows graph.now)) }
     ensures ranks_iff_no_ring { Room (G.size graph.now) ranks.old ring.old → (HaveRanks (G.follows graph.now) (G.size graph.now) ↔ NoRing (G.follows graph.now)) }
 {
-    let n = graph.points();
-    if !has_room(n, ranks, ring) {
+    let n = graph.points() as usize;
+    if ranks.len() < n || ring.len() < n {
         return Err(RankFault::Tables);
     }
-    rounds::clear(ranks, n);
-    match rounds::settle(graph, ranks, n) {
+    rank_points(graph, &mut ranks[..n], &mut ring[..n])
+}
+
+// `rank`, in tables that have a place for each point and no more. They are lent, so this stands as a clause of each function below and in no struct.
+fn rank_points<G: Graph>(graph: &G, ranks: &mut [u16], ring: &mut [u16]) -> Result<u16, RankFault>
+    requires ranks_fit { length ranks.old ≡ G.size graph.now }
+    requires ring_fits { length ring.old ≡ G.size graph.now }
+    ensures { Answered (G.follows graph.now) (G.size graph.now) ranks.old ranks.new ring.old ring.new result }
+{
+    ranks.fill(0);
+    match rounds::settle(graph, ranks) {
         Ok(top) => Ok(top),
         Err(stall) => {
-            let length = rings::show(graph, ranks, n, stall, ring);
+            let length = rings::show(graph, ranks, stall, ring);
             Err(RankFault::Ring { length })
         }
     }

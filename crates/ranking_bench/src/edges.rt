@@ -1,6 +1,6 @@
 // Graphs that are told by a lent list of edges.
-ghost use Rattle.std.specs.Prelude.{◌≡◌, ◌<◌, true, false};
-ghost use Rattle.ranking_bench.specs.Lists.{Listed};
+ghost use Rattle.std.specs.Prelude.{◌↔◌, ◌<◌, ◌≤◌, Contains, IsTrue};
+ghost use Rattle.std.proofs.Common.{rules};
 
 use ranking::Graph;
 
@@ -9,44 +9,37 @@ use ranking::Graph;
 pub struct Edges<'a> {
     pub points: u8,
     pub edges: &'a [(u16, u16)],
+    ghost small: { points ≤ 255 },
 }
 
-// Whether `(x, y)` is one of the edges.
-fn has(edges: &[(u16, u16)], x: u16, y: u16) -> bool
-    ensures { (result ≡ true → Listed edges.now x y) × (result ≡ false → Listed edges.now x y → ⊥) }
-{
-    for edge in edges {
-        if edge.0 == x && edge.1 == y {
-            return true;
-        }
+impl Edges<'_> {
+    // Whether `(x, y)` is one of the edges.
+    fn has(&self, x: u16, y: u16) -> bool
+        ensures { IsTrue result ↔ Contains self.now.edges.now (x, y) }
+    {
+        self.edges.contains(&(x, y))
     }
-    false
 }
 
 impl Graph for Edges<'_> {
     ghost size = { λ g. g.points };
 
-    ghost follows = { λ g x y. (x < g.points) × (y < g.points) × Listed g.edges.now x y };
+    ghost follows = { λ g x y. (x < g.points) × (y < g.points) × Contains g.edges.now (x, y) };
+
+    ghost within = { λ g x y h. (h.0, h.1) };
+
+    ghost small = { Prim.search rules };
 
     fn points(&self) -> u16 {
-        self.points as u16
+        u16::from(self.points)
     }
 
+    // The next two differ in which end of an edge is given: each is one search.
     fn next_follower(&self, x: u16, from: u16) -> Option<u16> {
-        for y in from..self.points as u16 {
-            if has(self.edges, x, y) {
-                return Some(y);
-            }
-        }
-        None
+        (from..u16::from(self.points)).find(|&y| self.has(x, y))
     }
 
     fn next_forerunner(&self, y: u16, from: u16) -> Option<u16> {
-        for x in from..self.points as u16 {
-            if has(self.edges, x, y) {
-                return Some(x);
-            }
-        }
-        None
+        (from..u16::from(self.points)).find(|&x| self.has(x, y))
     }
 }

@@ -11,16 +11,9 @@ mod shapes;
 mod tests;
 
 use ranking::{Graph, RankFault, rank};
-use shapes::{Chain, Grid, Ring};
+use shapes::{Chain, Grid, Points, Ring};
 use std::time::Instant;
 use std::{env, io};
-
-#[derive(Clone, Copy)]
-enum Shape {
-    Grid,
-    Chain,
-    Ring,
-}
 
 // The best time of twenty runs, and the last run's answer.
 #[derive(Clone, Copy)]
@@ -29,19 +22,16 @@ struct Timed {
     answer: Result<u16, RankFault>,
 }
 
-fn best_of<G: Graph>(
-    rt: &HostRuntime,
-    graph: &G,
-    ranks: &mut [u16],
-    ring: &mut [u16],
-) -> io::Result<Timed> {
+fn best_of<G: Graph>(rt: &HostRuntime, graph: &G) -> io::Result<Timed> {
+    let mut ranks = [0; 4096];
+    let mut ring = [0; 4096];
     let mut best = Timed {
         seconds: 1e9,
         answer: Ok(0),
     };
     for _ in 0..20 {
         let start = Instant::now(rt)?;
-        best.answer = rank(graph, ranks, ring);
+        best.answer = rank(graph, &mut ranks, &mut ring);
         let seconds = start.elapsed(rt)?.as_secs_f64();
         if seconds < best.seconds {
             best.seconds = seconds;
@@ -50,22 +40,18 @@ fn best_of<G: Graph>(
     Ok(best)
 }
 
-fn best_of_shape(rt: &HostRuntime, shape: Shape, points: u16) -> io::Result<Timed> {
-    let mut ranks = [0; 4096];
-    let mut ring = [0; 4096];
-    match shape {
-        Shape::Grid => best_of(rt, &Grid::of(points), &mut ranks, &mut ring),
-        Shape::Chain => best_of(rt, &Chain::of(points), &mut ranks, &mut ring),
-        Shape::Ring => best_of(rt, &Ring::of(points), &mut ranks, &mut ring),
-    }
-}
-
-// One line: the times at 1024, 2048 and 4096 points over the time at 512.
-fn growth(rt: &HostRuntime, name: &str, shape: Shape) -> io::Result<()> {
-    let one = best_of_shape(rt, shape, 512)?.seconds;
-    let two = best_of_shape(rt, shape, 1024)?.seconds / one;
-    let four = best_of_shape(rt, shape, 2048)?.seconds / one;
-    let last = best_of_shape(rt, shape, 4096)?;
+// One line: the times at 1024, 2048 and 4096 points of a shape over the time at 512.
+fn growth<G: Graph + Copy, F: Fn(Points) -> G>(
+    rt: &HostRuntime,
+    name: &str,
+    shape: F,
+) -> io::Result<()>
+    requires { F.IsAlwaysCallable shape }
+{
+    let one = best_of(rt, &shape(Points::of(512)))?.seconds;
+    let two = best_of(rt, &shape(Points::of(1024)))?.seconds / one;
+    let four = best_of(rt, &shape(Points::of(2048)))?.seconds / one;
+    let last = best_of(rt, &shape(Points::of(4096)))?;
     let eight = last.seconds / one;
     match last.answer {
         Ok(top) => println!(rt; "{name} 1.0 {two:.1} {four:.1} {eight:.1} (greatest rank {top})"),
@@ -80,9 +66,9 @@ fn main(rt: HostRuntime) -> io::Result<()> {
     for word in env::args(&rt)?.skip(1) {
         if word.as_str() == "time" {
             println!(rt; "time at 512, 1024, 2048 and 4096 points, over the time at 512")?;
-            growth(&rt, "grid ", Shape::Grid)?;
-            growth(&rt, "chain", Shape::Chain)?;
-            return growth(&rt, "ring ", Shape::Ring);
+            growth(&rt, "grid ", Grid)?;
+            growth(&rt, "chain", Chain)?;
+            return growth(&rt, "ring ", Ring);
         }
     }
     println!(rt;

@@ -1,53 +1,25 @@
-use Rattle.std.proofs.Common.{get_or, refl, arith, rules}
-use Rattle.ranking.specs.Graphs.{Room, Ranked, Ringed}
-use Rattle.ranking.proofs.Answering.{ranked_whole, ringed_whole, within_size, iff_ranked, iff_ringed, ranked_not_refused, ringed_not_refused, false_not_true}
-use Rattle.ranking.proofs.Clearing.{cleared}
+use Rattle.std.proofs.Common.{ℕ, take, drop, ◌++◌, sym, subst, arith, rules}
+use Rattle.std.proofs.lemmas.List.{places}
+use Rattle.ranking.specs.Graphs.{Answered}
+use Rattle.ranking.proofs.Answering.{answered_whole, ok_iff_no_ring, ranks_iff_no_ring}
 use Rattle.ranking.proofs.rank.Goals as goal
 
-pub settle-requires : goal.settle-requires
-settle-requires g c =
-    let room = c.has_room.ensures.room c.if-not-has_room.false in
-    record {
-      held = record { all = c.points-n.ensures.count; small = c.points-n.ensures.small; within = c.points-n.ensures.within; room = omega arith };
-      zeros = (cleared c.points-n.result c.args.ranks.now c.clear.new.ranks room.0 c.clear.ensures).zeros;
-    }
-
-pub returns-in-Ok : goal.returns-in-Ok
-returns-in-Ok g c =
+pub returns-clause-answer : goal.returns-clause-answer
+returns-clause-answer g c =
     let f = g.G.Graph.follows c.args.graph.now in
-    let n = c.points-n.result in
-    let m = g.G.Graph.size c.args.graph.now in
     let s = c.args.ranks.now in
-    let e = c.points-n.ensures.count in
-    let top = c.in-Ok.top in
-    let t = c.settle.new.ranks in
-    let fits : Room n s c.args.ring.now = c.has_room.ensures.room c.if-not-has_room.false in
-    let k : Ranked f m top s t = ranked_whole f n m e top s c.clear.new.ranks t (cleared n s c.clear.new.ranks fits.0 c.clear.ensures) c.in-Ok.ensures in
-    let room : Room m s c.args.ring.now = (omega arith, omega arith) in
-    record {
-      answer = (room, k, search rules);
-      refused = ranked_not_refused m s c.args.ring.now room top;
-      ranked = λ h. (λ o. k.free, λ o. refl);
-      ranks_iff_no_ring = λ h. iff_ranked f m (within_size f n m e c.points-n.ensures.within) top s t k;
-    }
-
-pub returns-in-Err : goal.returns-in-Err
-returns-in-Err g c =
-    let f = g.G.Graph.follows c.args.graph.now in
-    let n = c.points-n.result in
-    let m = g.G.Graph.size c.args.graph.now in
-    let s = c.args.ranks.now in
+    let t = c.rank_points.new.ranks in
     let u = c.args.ring.now in
-    let e = c.points-n.ensures.count in
-    let len = c.show-length.result in
-    let t = c.show-length.new.ranks in
-    let v = c.show-length.new.ring in
-    let fits : Room n s u = c.has_room.ensures.room c.if-not-has_room.false in
-    let k : Ringed f m len s t u v = ringed_whole f n m e len s c.clear.new.ranks c.settle.new.ranks t u v (cleared n s c.clear.new.ranks fits.0 c.clear.ensures) c.in-Err.ensures.1 c.show-length.ensures in
-    let room : Room m s u = (omega arith, omega arith) in
-    record {
-      answer = (room, k);
-      refused = ringed_not_refused m s u room len;
-      ranked = λ h. (λ o. absurd (false_not_true o), λ free. absurd (free (λ i. get_or v i 0) len k.ring));
-      ranks_iff_no_ring = λ h. iff_ringed f m (within_size f n m e c.points-n.ensures.within) len s t u v k;
-    }
+    let v = c.rank_points.new.ring in
+    let r = c.rank_points.result in
+    let P : ℕ → Type 0 = λ m. Answered f m (take c.points-n.result s) t (take c.points-n.result u) v r in
+    let Q : ℕ → Type 0 = λ m. Answered f m s (t ++ drop c.points-n.result s) u (v ++ drop c.points-n.result u) r in
+    subst Q c.points-n.ensures (answered_whole f c.points-n.result s t u v (omega arith, omega arith) (search (rules, places)) (search (rules, places)) r (subst P (sym c.points-n.ensures) c.rank_points.ensures))
+
+pub returns-clause-ranked : goal.returns-clause-ranked
+returns-clause-ranked g c =
+    λ room. ok_iff_no_ring _ _ _ _ _ _ (search (rules, places), search (rules, places)) c.rank_points.result c.rank_points.ensures
+
+pub returns-clause-ranks_iff_no_ring : goal.returns-clause-ranks_iff_no_ring
+returns-clause-ranks_iff_no_ring g c =
+    λ room. ranks_iff_no_ring _ _ _ _ _ _ (search (rules, places), search (rules, places)) (g.met.G.Graph.within c.args.graph.now) c.rank_points.result c.rank_points.ensures

@@ -1,26 +1,35 @@
-use Rattle.ranking.proofs.Settling.{going_start, going_on, fewer, ranked, stuck}
+use Rattle.std.proofs.Common.{eqb-true, arith, rules}
+use Rattle.ranking.proofs.Tables.{same_past}
+use Rattle.ranking.proofs.Settling.{going_start, going_on, ranked, ranked_none, stuck}
 use Rattle.ranking.proofs.rounds.settle.Goals as goal
 
-pub turns-init : goal.turns-init
-turns-init g c =
-    going_start (g.G.Graph.follows c.args.graph.now) c.args.n c.requires.held.within c.args.ranks.now c.requires.zeros
+pub loop-r-init : goal.loop-r-init
+loop-r-init g c = going_start _ _ (g.met.G.Graph.within c.args.graph.now) c.args.ranks.now (λ y l. c.requires.zeros y (omega arith))
 
-pub turns-preserved : goal.turns-preserved
-turns-preserved g c =
-    let a = c.in-Some.ensures in
-    let b = c.in-Some-find.ensures in
-    going_on (g.G.Graph.follows c.args.graph.now) c.args.n c.requires.held.within c.turns.r c.args.ranks.now c.turns.ranks c.round.new.ranks c.in-Some.first c.in-Some-find.field-0 c.turns.invariant c.round.ensures a.0 a.1 b.0 b.1
+pub loop-r-preserved : goal.loop-r-preserved
+loop-r-preserved g c =
+    let left = c.if-not-contains.ensures.cases in
+    let done = c.if-not-contains-2.ensures.cases in
+    going_on _ _ (g.met.G.Graph.within c.args.graph.now) c.loop-r.r-counter c.loop-r.ranks c.round.new.ranks left.0 done.0 c.loop-r.invariant c.round.ensures (omega (arith, left.1)) (eqb-true _ _ (left.2 0)) (omega (arith, done.1)) (eqb-true _ _ (done.2 0))
 
-pub turns-smaller : goal.turns-smaller
-turns-smaller g c =
-    let b = c.in-Some-find.ensures in
-    fewer (g.G.Graph.follows c.args.graph.now) c.args.n c.requires.held.within c.turns.r c.turns.ranks c.round.new.ranks c.in-Some-find.field-0 c.round.ensures b.0 b.1
+pub returns-then-not-contains : goal.returns-then-not-contains
+returns-then-not-contains g c =
+    record {
+      ranked = ranked _ _ (g.met.G.Graph.within c.args.graph.now) c.loop-r.r-counter c.args.ranks.now c.loop-r.ranks c.round.new.ranks (omega arith) c.loop-r.invariant c.round.ensures (λ y l e. search rules) (same_past _ _ _ c.requires.fits (omega arith));
+      stuck = tt;
+    }
 
-pub returns-in_default : goal.returns-in_default
-returns-in_default g c =
-    ranked (g.G.Graph.follows c.args.graph.now) c.args.n c.requires.held.within c.turns.r c.args.ranks.now c.turns.ranks c.round.new.ranks c.turns.invariant c.round.ensures c.in_default.ensures
+pub returns-then-not-contains-2 : goal.returns-then-not-contains-2
+returns-then-not-contains-2 g c =
+    let left = c.if-not-contains.ensures.cases in
+    record {
+      ranked = tt;
+      stuck = stuck _ _ (g.met.G.Graph.within c.args.graph.now) c.loop-r.r-counter c.loop-r.ranks c.round.new.ranks left.0 (omega arith) c.round.ensures (omega (arith, left.1)) (eqb-true _ _ (left.2 0)) (λ y l e. search rules);
+    }
 
-pub returns-in_default-find : goal.returns-in_default-find
-returns-in_default-find g c =
-    let a = c.in-Some.ensures in
-    stuck (g.G.Graph.follows c.args.graph.now) c.args.n c.requires.held.within c.turns.r c.args.ranks.now c.turns.ranks c.round.new.ranks c.in-Some.first c.turns.invariant c.round.ensures a.0 a.1 c.in_default-find.ensures
+pub returns : goal.returns
+returns g c =
+    record {
+      ranked = ranked_none _ _ (g.met.G.Graph.within c.args.graph.now) c.loop-r.r-counter c.args.ranks.now c.loop-r.ranks (omega arith) c.loop-r.invariant (same_past _ _ _ c.requires.fits (omega arith));
+      stuck = tt;
+    }

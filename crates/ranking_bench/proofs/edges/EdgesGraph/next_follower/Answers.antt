@@ -1,11 +1,10 @@
-use Rattle.std.proofs.Common.{arith, below_more}
+use Rattle.std.proofs.Common.{ℕ, Contains, arith, rules}
+use Rattle.std.proofs.lemmas.Iterator.{first_from_Range}
+use Rattle.ranking_bench.proofs.Finding.{next_from_first}
 use Rattle.ranking_bench.proofs.edges.EdgesGraph.next_follower.Goals as goal
 
-pub returns-then-has : goal.returns-then-has
-returns-then-has c = (omega arith, (c.requires, omega arith, c.has.ensures.0 c.if-has.true), λ z a b h. c.loop-y.invariant z b a h.2)
-
-pub loop-y-preserved : goal.loop-y-preserved
-loop-y-preserved c = below_more _ _ c.loop-y.invariant (λ a h. c.has.ensures.1 c.if-has.false h)
-
 pub returns : goal.returns
-returns c = λ z a h. let l = h.1 in c.loop-y.invariant z (omega arith) a h.2
+returns c =
+    let Q : ℕ → Type 0 = λ y. Contains c.args.self.now.edges.now (c.args.x, y) in
+    let first = first_from_Range _ _ _ _ Q (λ y. Q y → ⊥) c.find.ensures.ran (λ y q k. search rules) (λ y q k. search rules) in
+    next_from_first _ Q _ _ (λ z h. ((let l = h.1 in omega arith), h.2)) (λ z l q. (omega arith, omega arith, q)) _ first

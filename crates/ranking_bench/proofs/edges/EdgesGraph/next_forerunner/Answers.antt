@@ -1,11 +1,10 @@
-use Rattle.std.proofs.Common.{arith, below_more}
+use Rattle.std.proofs.Common.{ℕ, Contains, arith, rules}
+use Rattle.std.proofs.lemmas.Iterator.{first_from_Range}
+use Rattle.ranking_bench.proofs.Finding.{next_from_first}
 use Rattle.ranking_bench.proofs.edges.EdgesGraph.next_forerunner.Goals as goal
 
-pub returns-then-has : goal.returns-then-has
-returns-then-has c = (omega arith, (omega arith, c.requires, c.has.ensures.0 c.if-has.true), λ z a b h. c.loop-x.invariant z b a h.2)
-
-pub loop-x-preserved : goal.loop-x-preserved
-loop-x-preserved c = below_more _ _ c.loop-x.invariant (λ a h. c.has.ensures.1 c.if-has.false h)
-
 pub returns : goal.returns
-returns c = λ z a h. let l = h.0 in c.loop-x.invariant z (omega arith) a h.2
+returns c =
+    let Q : ℕ → Type 0 = λ x. Contains c.args.self.now.edges.now (x, c.args.y) in
+    let first = first_from_Range _ _ _ _ Q (λ x. Q x → ⊥) c.find.ensures.ran (λ x q k. search rules) (λ x q k. search rules) in
+    next_from_first _ Q _ _ (λ z h. ((let l = h.0 in omega arith), h.2)) (λ z l q. (omega arith, omega arith, q)) _ first
