@@ -53,6 +53,10 @@ joined nodes cs all c h =
     let j = all (c / 2) (half_below cs c h) in
     both_ways (EndsJoin nodes) cs c j (j.1, j.0, λ e. j.2 (sym e), λ a b. j.3 b a)
 
+-- the tails of the channels are nodes
+pub tails_below : (nodes : List ℕ) (cs : List Cable) → KeepsRules nodes cs → (c : ℕ) → c < channels cs → (tail_end cs c).node.0 < length nodes
+tails_below nodes cs rules c h = port_node nodes (tail_end cs c) (joined nodes cs rules.2 c h).0
+
 pub kind_cases : (nodes : List ℕ) → KnownKinds nodes → (v : ℕ) → v < length nodes → HostAt nodes v ⊎ SwitchAt nodes v
 kind_cases nodes known v h =
     let k = known v h in

@@ -1,5 +1,6 @@
 pub mod ShownTables
 pub mod Channels
 pub mod Facts
-mod Links
-mod Walks
+pub mod Lists
+pub mod Searches
+mod Chains

@@ -1,4 +1,5 @@
 pub mod Network
+pub mod Kinds
 pub mod Index
 pub mod Racks
 pub mod Faults

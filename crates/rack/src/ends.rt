@@ -1,40 +1,42 @@
 // Whether a cable may be added to a network, what ends at a port, and which host has no cable.
-ghost use Rattle.std.specs.Prelude.{◌≡◌, ℕ, ◌<◌, ◌⊎◌, length, get_or, Decides, MatchBool, MatchOption, slice_index, slice_index_or};
-ghost use Rattle.rack.specs.Network.{Port, JoinsPorts, EndsAt, FreeEnd, HostAt, none, Uncabled, Lonely};
+ghost use Rattle.std.specs.Prelude.{◌≡◌, ◌≢◌, ℕ, ◌<◌, ◌⊎◌, length, get_or, Decides, MatchBool, MatchOption, slice_index, slice_index_or};
+ghost use Rattle.rack.specs.Kinds.{code};
+ghost use Rattle.rack.specs.Network.{Port, JoinsPorts, EndsAt, FreeEnd, HostAt, SwitchAt, none, Uncabled, Lonely};
 
 use crate::cable::{Cable, End};
+use crate::kind::Kind;
 use crate::numbers::Node;
 
-// What the node table says of a node: 1 a host, 2 a switch, 0 no node.
-pub fn kind_at(nodes: &[u8], node: Node) -> u8
-    ensures { result ≡ slice_index nodes.now node.0 }
+// What the node is, by the node table; none if the table has no such node or another number for it.
+pub fn kind_at(nodes: &[u8], node: Node) -> Option<Kind>
+    ensures { MatchOption result ((slice_index nodes.now node.0 ≢ 1) × (slice_index nodes.now node.0 ≢ 2)) (λ kind. code kind ≡ slice_index nodes.now node.0) }
 {
-    let place = usize::from(node.0);
-    if place < nodes.len() { nodes[place] } else { 0 }
+    let number = nodes.get(usize::from(node.0))?;
+    Kind::of(*number)
 }
 
-// How many ports a node of that kind has.
-fn ports(kind: u8) -> u8
-    ensures { result ≡ Rattle.rack.specs.Network.ports kind }
-{
-    match kind {
-        2 => 36,
-        1 => 1,
-        _ => 0,
-    }
-}
-
-// Whether the node has the port.
+// Whether the node has the port. Its number is compared with a count, which is no port.
 fn has_port(nodes: &[u8], end: End) -> bool
     ensures { Decides result (Port nodes.now end) }
 {
-    1 <= end.port.0 && end.port.0 <= ports(kind_at(nodes, end.node))
+    match kind_at(nodes, end.node) {
+        Some(kind) => 1 <= end.port.0 && end.port.0 <= kind.ports(),
+        None => false,
+    }
 }
 
-fn is_host_at(nodes: &[u8], node: Node) -> bool
+// Whether the node is a host.
+pub fn is_host_at(nodes: &[u8], node: Node) -> bool
     ensures { Decides result (HostAt nodes.now node.0) }
 {
-    kind_at(nodes, node) == 1
+    kind_at(nodes, node) == Some(Kind::Host)
+}
+
+// Whether the node is a switch.
+pub fn is_switch_at(nodes: &[u8], node: Node) -> bool
+    ensures { Decides result (SwitchAt nodes.now node.0) }
+{
+    kind_at(nodes, node) == Some(Kind::Switch)
 }
 
 // Whether the cable joins ports of two different nodes that are not both hosts.
@@ -43,7 +45,7 @@ pub fn joins_ports(nodes: &[u8], cable: Cable) -> bool
 {
     has_port(nodes, cable.first)
         && has_port(nodes, cable.second)
-        && cable.first.node.0 != cable.second.node.0
+        && cable.first.node != cable.second.node
         && !(is_host_at(nodes, cable.first.node) && is_host_at(nodes, cable.second.node))
 }
 
@@ -51,32 +53,26 @@ pub fn joins_ports(nodes: &[u8], cable: Cable) -> bool
 pub fn cable_at(cables: &[Cable], end: End) -> Option<usize>
     ensures { MatchOption result (FreeEnd cables.now end) (λ k. (k < length cables.now) × EndsAt (slice_index_or cables.now k none) end) }
 {
-    for (k, cable) in cables.iter().enumerate() {
-        if cable.first == end || cable.second == end {
-            return Some(k);
-        }
-    }
-    None
+    cables
+        .iter()
+        .position(|cable| cable.first == end || cable.second == end)
 }
 
 // Whether a cable ends at the node.
 fn is_cabled(cables: &[Cable], node: usize) -> bool
     ensures { MatchBool result ((k : ℕ) × (k < length cables.now) × (((get_or cables.now k none).first.node.0 ≡ node) ⊎ ((get_or cables.now k none).second.node.0 ≡ node))) (Uncabled cables.now node) }
 {
-    for cable in cables {
-        if usize::from(cable.first.node.0) == node || usize::from(cable.second.node.0) == node {
-            return true;
-        }
-    }
-    false
+    cables.iter().any(|cable| {
+        usize::from(cable.first.node.0) == node || usize::from(cable.second.node.0) == node
+    })
 }
 
-// The lowest host without a cable.
+// The lowest host without a cable. A loop that returns: a chain would find a pair of place and byte, and then take it apart.
 pub fn lonely_host(nodes: &[u8], cables: &[Cable]) -> Option<usize>
     ensures { MatchOption result ((u : ℕ) → Lonely nodes.now cables.now u → ⊥) (λ v. Lonely nodes.now cables.now v × ((u : ℕ) → u < v → Lonely nodes.now cables.now u → ⊥)) }
 {
-    for (node, kind) in nodes.iter().enumerate() {
-        if *kind == 1 && !is_cabled(cables, node) {
+    for (node, number) in nodes.iter().enumerate() {
+        if Kind::of(*number) == Some(Kind::Host) && !is_cabled(cables, node) {
             return Some(node);
         }
     }

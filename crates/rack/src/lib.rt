@@ -4,5 +4,6 @@
 pub mod cable;
 pub mod ends;
 pub mod fault;
+pub mod kind;
 pub mod numbers;
 pub mod rack;

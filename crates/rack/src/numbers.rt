@@ -2,7 +2,7 @@
 ghost use Rattle.std.specs.Prelude.{◌≡◌, ◌<◌, ◌≤◌, min, MatchOption};
 
 // A node, by its number in the file.
-#[derive(Clone, Copy, PartialEq, Eq, Debug)]
+#[derive(Clone, Copy, PartialEq, Eq, PartialOrd, Ord, Debug)]
 pub struct Node(pub u16);
 
 // A port of a node.
@@ -10,85 +10,62 @@ pub struct Node(pub u16);
 pub struct Port(pub u8);
 
 // A channel: one direction of a cable.
-#[derive(Clone, Copy, PartialEq, Eq, Debug)]
+#[derive(Clone, Copy, PartialEq, Eq, PartialOrd, Ord, Debug)]
 pub struct Channel(pub u16);
 
-// A virtual lane, 0 to 7.
+// A number from 0 to `LAST`.
 #[derive(Clone, Copy, PartialEq, Eq, Debug)]
-pub struct Lane {
+pub struct UpTo<const LAST: u8> {
     number: u8,
-    ghost below: { number < 8 },
+    ghost within: { number ≤ LAST },
 }
+
+// A virtual lane, 0 to 7.
+pub type Lane = UpTo<7>;
 
 // A service level, 0 to 15.
-#[derive(Clone, Copy, PartialEq, Eq, Debug)]
-pub struct Level {
-    number: u8,
-    ghost below: { number < 16 },
-}
+pub type Level = UpTo<15>;
 
-impl Lane {
-    pub fn new(number: u8) -> Option<Lane>
-        ensures { MatchOption result (8 ≤ number) (λ l. l.number ≡ number) }
+impl<const LAST: u8> UpTo<LAST> {
+    pub fn new(number: u8) -> Option<UpTo<LAST>>
+        ensures { MatchOption result (LAST < number) (λ l. l.number ≡ number) }
     {
-        if number < 8 {
-            Some(Lane { number })
+        if number <= LAST {
+            Some(UpTo { number })
         } else {
             None
         }
     }
 
-    // Lane 0, on which every path begins.
-    pub fn zero() -> Lane
+    // Lane 0, on which every path begins, or level 0.
+    pub fn zero() -> UpTo<LAST>
         ensures { result.number ≡ 0 }
     {
-        Lane { number: 0 }
+        UpTo { number: 0 }
     }
 
+    pub fn number(self) -> u8
+        ensures same { result ≡ self.entry.number }
+        ensures within { result ≤ LAST }
+    {
+        self.number
+    }
+}
+
+impl UpTo<7> {
     // Lane 1.
     pub fn one() -> Lane
         ensures { result.number ≡ 1 }
     {
-        Lane { number: 1 }
+        UpTo { number: 1 }
     }
 
     // The lane of that number; a number above 7 counts as 7.
     pub fn capped(number: u8) -> Lane
         ensures { result.number ≡ min number 7 }
     {
-        Lane {
+        UpTo {
             number: number.min(7),
         }
-    }
-
-    pub fn number(self) -> u8
-        ensures { (result ≡ self.number) × (result < 8) }
-    {
-        self.number
-    }
-}
-
-impl Level {
-    pub fn new(number: u8) -> Option<Level>
-        ensures { MatchOption result (16 ≤ number) (λ l. l.number ≡ number) }
-    {
-        if number < 16 {
-            Some(Level { number })
-        } else {
-            None
-        }
-    }
-
-    // Level 0.
-    pub fn zero() -> Level
-        ensures { result.number ≡ 0 }
-    {
-        Level { number: 0 }
-    }
-
-    pub fn number(self) -> u8
-        ensures { (result ≡ self.number) × (result < 16) }
-    {
-        self.number
     }
 }

@@ -9,13 +9,14 @@ use Rattle.rack.specs.declared.cable.Cable.{Cable}
 use Rattle.rack.specs.declared.cable.End.{End}
 use Rattle.reading.specs.declared.fault.FileFault.{FileFault}
 use Rattle.reading.specs.declared.limits.Limits.{Limits}
-use Rattle.reading.specs.declared.record.Kind.{Kind}
-use Rattle.reading.specs.declared.record.Kind.TheVariants.{Host, Switch}
+use Rattle.rack.specs.declared.kind.Kind.{Kind}
+use Rattle.rack.specs.declared.kind.Kind.TheVariants.{Host, Switch}
 use Rattle.reading.specs.declared.record.Record.{Record}
 use Rattle.reading.specs.declared.record.Record.TheVariants.{Node, Joins}
 use Rattle.reading.specs.Format.{word, decoded, said}
 use Rattle.rack.specs.Network.{none, ports, Port, EndsAt, FreeEnd, JoinsPorts, Apart, KeepsRules}
-use Rattle.reading.specs.Rules.{Described, Kept, asked, grown, described, Fine, Shown, code, Answers, Alone}
+use Rattle.rack.specs.Kinds.{code}
+use Rattle.reading.specs.Rules.{Described, Kept, asked, grown, described, Fine, Shown, Answers, Alone}
 use Rattle.rack_laws.specs.Written.{high, low, node_record, node_records, cable_record, cable_records, written, counted}
 use Rattle.rack_laws.specs.Files.{WrittenAccepted, WrittenRead, Gives, FilesGiveRacks}
 use Rattle.rack_laws.proofs.HostCables.{by_port}

@@ -1,6 +1,5 @@
 // Files to read, written record by record, and tables to read them into.
-use rack::cable::{Cable, End};
-use rack::numbers::{Node, Port};
+use rack::cable::Cable;
 use reading::add::Counts;
 use reading::fault::FileFault;
 use reading::limits::Limits;
@@ -47,19 +46,6 @@ pub fn file(heap: Global, lines: &[Line]) -> Result<Vec<u8>, AllocError> {
     Ok(out)
 }
 
-pub fn cable(v: u16, p: u8, w: u16, q: u8) -> Cable {
-    Cable {
-        first: End {
-            node: Node(v),
-            port: Port(p),
-        },
-        second: End {
-            node: Node(w),
-            port: Port(q),
-        },
-    }
-}
-
 // What each place holds before a file is read.
 pub const MARK: u8 = 9;
 
@@ -79,7 +65,7 @@ impl Tables {
         cables: usize,
         forwarding: usize,
     ) -> Result<Tables, AllocError> {
-        let mark = cable(9, 9, 9, 9);
+        let mark = Cable::between(9, 9, 9, 9);
         Ok(Tables {
             nodes: vec![in heap; MARK; nodes]?,
             cables: vec![in heap; mark; cables]?,
@@ -114,7 +100,7 @@ impl Tables {
             assert!(rt; k < nodes || *kind == MARK);
         }
         for (k, laid) in self.cables.iter().enumerate() {
-            assert!(rt; k < cables || *laid == cable(9, 9, 9, 9));
+            assert!(rt; k < cables || *laid == Cable::between(9, 9, 9, 9));
         }
         for (k, hop) in self.forwarding.iter().enumerate() {
             assert!(rt; k < forwarding || *hop == 9);

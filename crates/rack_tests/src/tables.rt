@@ -1,6 +1,6 @@
 // What the tables hold once a file is read.
 use crate::files::Line::{Forwards, Host, Joins, Switch};
-use crate::files::{Line, MARK, Tables, cable, file};
+use crate::files::{Line, MARK, Tables, file};
 use rack::cable::Cable;
 use reading::add::Counts;
 use reading::limits::Limits;
@@ -46,10 +46,10 @@ fn place_by_place(rt: HostRuntime) -> Result<(), Fail> {
     }
     for (k, laid) in tables.cables.iter().enumerate() {
         let want = match k {
-            0 => cable(0, 1, 1, 1),
-            1 => cable(1, 2, 2, 1),
+            0 => Cable::between(0, 1, 1, 1),
+            1 => Cable::between(1, 2, 2, 1),
             2..=255 => Cable::none(),
-            _ => cable(9, 9, 9, 9),
+            _ => Cable::between(9, 9, 9, 9),
         };
         assert_eq!(rt; *laid, want);
     }

@@ -1,20 +1,15 @@
 // What a rack tells of its nodes and channels.
-ghost use Rattle.std.specs.Prelude.{◌≡◌, ℕ, ◌<◌, ◌≤◌, Decides, MatchOption};
+ghost use Rattle.std.specs.Prelude.{◌≡◌, ℕ, ◌<◌, ◌≤◌, All, Contains, Decides, MatchOption};
+ghost use Rattle.std.specs.List.{AllPairs};
 ghost use Rattle.rack.specs.Network.{tail_end, head_end, Leaves};
+ghost use Rattle.rack.specs.declared.numbers.Channel.{Channel};
 ghost use Rattle.rack.specs.Racks.{node_count, channel_count, cables_of, Host, Switch, Leaving, Entering, EntersSwitch, back};
 
 use crate::cable::End;
-use crate::ends::kind_at;
+pub use crate::cable::Ends;
+use crate::ends::{is_host_at, is_switch_at};
 use crate::numbers::{Channel, Node};
 use crate::rack::Rack;
-use crate::rack::make::port_place;
-
-// Both ends of a channel: it leaves its tail and enters its head.
-#[derive(Clone, Copy)]
-pub struct Ends {
-    pub tail: End,
-    pub head: End,
-}
 
 // The other channel of the channel's cable.
 pub fn way_back(channel: Channel) -> Channel
@@ -43,35 +38,21 @@ impl Rack {
     pub fn is_host(&self, node: Node) -> bool
         ensures { Decides result (Host self.now node.0) }
     {
-        kind_at(&self.nodes, node) == 1
+        is_host_at(&self.nodes, node)
     }
 
     pub fn is_switch(&self, node: Node) -> bool
         ensures { Decides result (Switch self.now node.0) }
     {
-        kind_at(&self.nodes, node) == 2
+        is_switch_at(&self.nodes, node)
     }
 
     // The ends of a channel; none if there is no such channel.
     pub fn ends(&self, channel: Channel) -> Option<Ends>
         ensures { MatchOption result (channel_count self.now ≤ channel.0) (λ e. (channel.0 < channel_count self.now) × (e.tail ≡ tail_end (cables_of self.now) channel.0) × (e.head ≡ head_end (cables_of self.now) channel.0)) }
     {
-        let place = usize::from(channel.0 / 2);
-        if place >= self.cables.len() {
-            return None;
-        }
-        let cable = self.cables[place];
-        if channel.0 % 2 == 0 {
-            Some(Ends {
-                tail: cable.first,
-                head: cable.second,
-            })
-        } else {
-            Some(Ends {
-                tail: cable.second,
-                head: cable.first,
-            })
-        }
+        let cable = self.cables.get(usize::from(channel.0 / 2))?;
+        Some(cable.ends(channel))
     }
 
     // The switch that a channel enters; none if it enters a host or is no channel.
@@ -86,64 +67,53 @@ impl Rack {
         }
     }
 
-    // Whether the index of ports has a place for the port.
-    fn has_place(&self, end: End) -> bool
-        ensures { Decides result ((end.node.0 < node_count self.now) × (end.port.0 ≤ 36)) }
+    // The channels that leave the node, in ascending order; none leaves what is no node.
+    pub fn leaving(&self, node: Node) -> &[Channel]
+        ensures each { All (λ c. Leaving self.now node.0 c.0) result.now }
+        ensures every { (c : Channel) → Leaving self.now node.0 c.0 → Contains result.now c }
+        ensures ascending { AllPairs (λ b c. b.0 < c.0) result.now }
     {
-        usize::from(end.node.0) < self.nodes.len() && end.port.0 <= 36
+        match self.leaving.get(usize::from(node.0)) {
+            Some(channels) => channels,
+            None => &[],
+        }
+    }
+
+    // Whether the channel leaves by the port.
+    fn leaves_by(&self, channel: Channel, end: End) -> bool
+        ensures { Decides result (Leaves (cables_of self.now) end channel.0) }
+    {
+        self.ends(channel).is_some_and(|ends| ends.tail == end)
     }
 
     // The channel that leaves by the port; none if none does.
     pub fn channel_at(&self, end: End) -> Option<Channel>
         ensures { MatchOption result ((c : ℕ) → Leaves (cables_of self.now) end c → ⊥) (λ c. Leaves (cables_of self.now) end c.0) }
     {
-        if !self.has_place(end) {
-            return None;
-        }
-        let channel = self.ports[port_place(end)];
-        if usize::from(channel) < self.channel_count() {
-            Some(Channel(channel))
-        } else {
-            None
-        }
+        self.leaving(end.node)
+            .iter()
+            .copied()
+            .find(|channel| self.leaves_by(*channel, end))
     }
 
     // The lowest-numbered channel from `from` on that leaves the node; none if none does.
     pub fn next_leaving(&self, node: Node, from: Channel) -> Option<Channel>
         ensures { MatchOption result ((c : ℕ) → from.0 ≤ c → Leaving self.now node.0 c → ⊥) (λ c. (from.0 ≤ c.0) × Leaving self.now node.0 c.0 × ((d : ℕ) → from.0 ≤ d → d < c.0 → Leaving self.now node.0 d → ⊥)) }
     {
-        if usize::from(node.0) >= self.nodes.len() {
-            return None;
-        }
-        let count = self.channel_count();
-        let mut channel = self.firsts[usize::from(node.0)];
-        while usize::from(channel) < count && channel < from.0 {
-            channel = self.nexts[usize::from(channel)];
-        }
-        if usize::from(channel) < count {
-            Some(Channel(channel))
-        } else {
-            None
-        }
+        self.leaving(node)
+            .iter()
+            .copied()
+            .find(|leaving| *leaving >= from)
     }
 
     // The lowest-numbered channel from `from` on that enters the node; none if none does.
     pub fn next_entering(&self, node: Node, from: Channel) -> Option<Channel>
         ensures { MatchOption result ((c : ℕ) → from.0 ≤ c → Entering self.now node.0 c → ⊥) (λ c. (from.0 ≤ c.0) × Entering self.now node.0 c.0 × ((d : ℕ) → from.0 ≤ d → d < c.0 → Entering self.now node.0 d → ⊥)) }
     {
-        if usize::from(node.0) >= self.nodes.len() {
-            return None;
-        }
-        let count = self.channel_count();
-        let mut channel = self.firsts[usize::from(node.0)];
-        while usize::from(channel) < count && way_back(Channel(channel)).0 < from.0 {
-            channel = self.nexts[usize::from(channel)];
-        }
-        if usize::from(channel) < count {
-            Some(way_back(Channel(channel)))
-        } else {
-            None
-        }
+        self.leaving(node)
+            .iter()
+            .map(|channel| way_back(*channel))
+            .find(|entering| *entering >= from)
     }
 
     // The channel out of a host; none if the node is no host.

@@ -1,12 +1,14 @@
 // Makes a rack from tables that keep the rules.
-ghost use Rattle.std.specs.Prelude.{◌≡◌, ℕ, ◌<◌, ◌≤◌, length, IfOk, Decides, MatchResult, ◌≢◌, slice_index, slice_index_or};
-ghost use Rattle.rack.specs.Network.{none, channels, tail_end, FreeEnd, KeepsRules, KnownKinds, AllJoin, Apart};
-ghost use Rattle.rack.specs.Index.{port_place, Placed, Indexed, FirstLeaves, FirstLeast, NextLeaves, NextLeast, Linked};
+ghost use Rattle.std.specs.Prelude.{◌≡◌, ℕ, ◌<◌, [], length, IfOk, Decides, MatchResult, ◌≢◌, slice_index_or};
+ghost use Rattle.rack.specs.Network.{none, FreeEnd, KeepsRules, KnownKinds, AllJoin, Apart};
+ghost use Rattle.rack.specs.Index.{list_of, Listed};
 ghost use Rattle.rack.specs.Racks.{nodes_of, cables_of, Refuses};
 
-use crate::cable::{Cable, End};
+use crate::cable::Cable;
 use crate::ends::{cable_at, joins_ports, lonely_host};
 use crate::fault::RackFault;
+use crate::kind::Kind;
+use crate::numbers::Channel;
 use crate::rack::Rack;
 use std::alloc::{AllocError, Global};
 
@@ -14,24 +16,14 @@ use std::alloc::{AllocError, Global};
 fn kinds_known(nodes: &[u8]) -> bool
     ensures { Decides result (KnownKinds nodes.now) }
 {
-    for kind in nodes {
-        if *kind < 1 || *kind > 2 {
-            return false;
-        }
-    }
-    true
+    nodes.iter().all(|number| Kind::of(*number).is_some())
 }
 
 // Whether each cable joins ports of two different nodes that are not both hosts.
 fn all_join(nodes: &[u8], cables: &[Cable]) -> bool
     ensures { Decides result (AllJoin nodes.now cables.now) }
 {
-    for cable in cables {
-        if !joins_ports(nodes, *cable) {
-            return false;
-        }
-    }
-    true
+    cables.iter().all(|cable| joins_ports(nodes, *cable))
 }
 
 // Whether none of the cables ends where the cable does.
@@ -46,8 +38,8 @@ fn all_apart(cables: &[Cable]) -> bool
     requires { (k : ℕ) → k < length cables.now → (slice_index_or cables.now k none).first.node.0 ≢ (slice_index_or cables.now k none).second.node.0 }
     ensures { Decides result (Apart cables.now) }
 {
-    for k in 0..cables.len() {
-        if !is_free(&cables[0..k], cables[k]) {
+    for (k, cable) in cables.iter().enumerate() {
+        if !is_free(&cables[..k], *cable) {
             return false;
         }
     }
@@ -67,83 +59,36 @@ fn keeps_rules(nodes: &[u8], cables: &[Cable]) -> bool
     all_apart(cables) && lonely_host(nodes, cables).is_none()
 }
 
-// The place of a port in the index of ports.
-pub(crate) fn port_place(end: End) -> usize
-    ensures { result ≡ port_place end }
+// An empty list for each node.
+fn no_channels(heap: Global, nodes: usize) -> Result<Vec<Vec<Channel>>, AllocError>
+    ensures long { IfOk result (λ lists. length lists.items ≡ nodes) }
+    ensures empty { IfOk result (λ lists. (v : ℕ) → list_of lists.items v ≡ []) }
 {
-    37 * usize::from(end.node.0) + usize::from(end.port.0)
-}
-
-// The port by which a channel leaves.
-fn tail_of(cables: &[Cable], channel: usize) -> End
-    requires { channel < channels cables.now }
-    ensures { result ≡ tail_end cables.now channel }
-{
-    let cable = cables[channel / 2];
-    if channel % 2 == 0 {
-        cable.first
-    } else {
-        cable.second
+    let mut lists = Vec::new(heap);
+    // a loop, since each list may fail to find memory
+    for _ in 0..nodes {
+        lists.push(Vec::new(heap))?;
     }
+    Ok(lists)
 }
 
-// Writes each channel at the place of the port by which it leaves.
-fn fill_ports(ports: &mut [u16], cables: &[Cable])
-    requires few { length cables.now ≤ 256 }
-    requires placed { Placed cables.now (length ports.old) }
-    requires blank { (k : ℕ) → k < length ports.old → slice_index ports.old k ≡ 65535 }
-    ensures at { (c : ℕ) → c < channels cables.now → slice_index ports.new (port_place (tail_end cables.now c)) ≡ c }
-    ensures back { (k : ℕ) → (k < length ports.new) × (slice_index ports.new k < channels cables.now) → port_place (tail_end cables.now (slice_index ports.new k)) ≡ k }
-{
-    for channel in 0..2 * cables.len() {
-        ports[port_place(tail_of(cables, channel))] = channel as u16;
-    }
-}
-
-// The index of ports.
-fn index_ports(heap: Global, nodes: &[u8], cables: &[Cable]) -> Result<Vec<u16>, AllocError>
+// For each node the channels that leave it: each channel goes to the end of its tail's list.
+fn list_channels(
+    heap: Global,
+    nodes: &[u8],
+    cables: &[Cable],
+) -> Result<Vec<Vec<Channel>>, AllocError>
     requires { KeepsRules nodes.now cables.now }
-    ensures { IfOk result (λ v. Indexed nodes.now cables.now v.items) }
+    ensures { IfOk result (λ lists. Listed nodes.now cables.now lists.items) }
 {
-    let mut ports = vec![in heap; 65535u16; 37 * nodes.len()]?;
-    fill_ports(&mut ports, cables);
-    Ok(ports)
-}
-
-// Puts each channel, from the last down, before those that leave the same node.
-fn fill_links(firsts: &mut [u16], nexts: &mut [u16], cables: &[Cable])
-    requires few { length cables.now ≤ 256 }
-    requires long { length nexts.old ≡ channels cables.now }
-    requires tails { (c : ℕ) → c < channels cables.now → (tail_end cables.now c).node.0 < length firsts.old }
-    requires blank { (v : ℕ) → v < length firsts.old → slice_index firsts.old v ≡ channels cables.now }
-    ensures first { FirstLeaves cables.now firsts.new }
-    ensures least { FirstLeast cables.now firsts.new }
-    ensures next { NextLeaves cables.now nexts.new }
-    ensures nearest { NextLeast cables.now nexts.new }
-{
-    for channel in (0..2 * cables.len()).rev() {
-        let tail = usize::from(tail_of(cables, channel).node.0);
-        nexts[channel] = firsts[tail];
-        firsts[tail] = channel as u16;
+    let mut lists = no_channels(heap, nodes.len())?;
+    // over numbers: there is no list of the channels before this one
+    for number in 0..2 * cables.len() {
+        let channel = Channel(number as u16);
+        let tail = cables[number / 2].ends(channel).tail;
+        lists[usize::from(tail.node.0)].push(channel)?;
     }
-}
-
-// For each node the first channel that leaves it, and for each channel the next.
-#[derive(Drop)]
-struct Links {
-    firsts: Vec<u16>,
-    nexts: Vec<u16>,
-}
-
-fn link(heap: Global, nodes: &[u8], cables: &[Cable]) -> Result<Links, AllocError>
-    requires { KeepsRules nodes.now cables.now }
-    ensures { IfOk result (λ l. Linked nodes.now cables.now l.firsts.items l.nexts.items) }
-{
-    let count = 2 * cables.len();
-    let mut firsts = vec![in heap; count as u16; nodes.len()]?;
-    let mut nexts = vec![in heap; 0u16; count]?;
-    fill_links(&mut firsts, &mut nexts, cables);
-    Ok(Links { firsts, nexts })
+    Ok(lists)
 }
 
 impl Rack {
@@ -154,16 +99,10 @@ impl Rack {
         if !keeps_rules(nodes, cables) {
             return Err(RackFault::Tables);
         }
-        let ports = index_ports(heap, nodes, cables)?;
-        let Links { firsts, nexts } = link(heap, nodes, cables)?;
-        let nodes = Vec::from_slice(heap, nodes)?;
-        let cables = Vec::from_slice(heap, cables)?;
         Ok(Rack {
-            nodes,
-            cables,
-            ports,
-            firsts,
-            nexts,
+            nodes: Vec::from_slice(heap, nodes)?,
+            cables: Vec::from_slice(heap, cables)?,
+            leaving: list_channels(heap, nodes, cables)?,
         })
     }
 }

@@ -1,12 +1,16 @@
-use Rattle.std.proofs.Common.{arith}
-use Rattle.std.proofs.lemmas.Bool.Decides.{not_from_Decides}
-use Rattle.rack.proofs.Walks.{leaves_where, leaves_there}
+use Rattle.std.proofs.Common.{rules, tests}
+use Rattle.std.proofs.lemmas.Iterator.{YieldsList-from_slice, first_from_find}
+use Rattle.std.proofs.lemmas.Iterator.Consumers.{YieldsList-from_copied}
+use Rattle.rack.specs.Network.{Leaves}
+use Rattle.rack.specs.Racks.{cables_of}
+use Rattle.rack.proofs.Searches.{at_port}
 use Rattle.rack.proofs.rack.Rack.channel_at.Goals as goal
 
-pub returns-then-not-has_place : goal.returns-then-not-has_place
-returns-then-not-has_place c = λ d h. not_from_Decides _ c.has_place.ensures c.if-not-has_place.true (leaves_where c.args.self.now c.args.end d h)
-
-pub returns-then-from-channel_count : goal.returns-then-from-channel_count
-returns-then-from-channel_count c =
-    let place = c.has_place.ensures.0 c.if-not-has_place.false in
-    leaves_there c.args.self.now c.args.end c.index-channel.result.now _ (omega arith) place.0 place.1 c.index-channel.ensures (omega arith)
+pub returns : goal.returns
+returns c =
+    let list = c.leaving.result.now in
+    let all = c.leaving.ensures in
+    let r = c.args.self.now in
+    let e = c.args.end in
+    at_port r e list (record { each = all.each; every = all.every; ascending = all.ascending }) c.find.result
+    (first_from_find _ _ c.find.result (λ x. Leaves (cables_of r) e x.0) (λ x. Leaves (cables_of r) e x.0 → ⊥) c.find.ensures.ran (YieldsList-from_copied (YieldsList-from_slice list cc)) (λ x q k. search (rules, tests)) (λ x q k. search (rules, tests)))

@@ -1,4 +1,4 @@
-use Rattle.rack.proofs.Walks.{out_of_host}
+use Rattle.rack.proofs.Searches.{out_of_host}
 use Rattle.rack.proofs.rack.Rack.channel_out.Goals as goal
 
 pub returns-then-is_host : goal.returns-then-is_host

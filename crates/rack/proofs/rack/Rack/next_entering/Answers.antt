@@ -1,26 +1,15 @@
-use Rattle.std.proofs.Common.{◌≤◌, arith, rules}
-use Rattle.rack.specs.Racks.{back}
-use Rattle.rack.proofs.Facts.{head_below}
-use Rattle.rack.proofs.Walks.{walks_start, walks_more, none_entering, found_entering, reads_at}
+use Rattle.std.proofs.Common.{◌<◌, ◌≤◌, map, rules, tests}
+use Rattle.std.proofs.lemmas.Iterator.{YieldsList-from_slice, YieldsList-from_map, first_from_find}
+use Rattle.rack.specs.Racks.{Entering}
+use Rattle.rack.proofs.Searches.{way_back, entering, first_from}
 use Rattle.rack.proofs.rack.Rack.next_entering.Goals as goal
 
-pub returns-then-from-len : goal.returns-then-from-len
-returns-then-from-len c = λ d low enters. omega (arith, head_below c.args.self.now d enters.0, enters.1)
-
-pub loop-from-init : goal.loop-from-init
-loop-from-init c = walks_start c.args.self.now back c.args.from.0 _
-
-pub loop-from-preserved : goal.loop-from-preserved
-loop-from-preserved c =
-    walks_more c.args.self.now back c.args.from.0 _ c.loop-from.channel _ (omega arith) (omega arith) (reads_at _ _ _ _ c.index-channel-in-loop-from.ensures c.from-in-loop-from-2.ensures)
-    c.loop-from.invariant
-
-pub returns-then-from-count : goal.returns-then-from-count
-returns-then-from-count c =
-    let low : c.args.from.0 ≤ c.way_back-then-from-count.result.0 = search rules in
-    found_entering c.args.self.now c.args.from.0 c.args.node.0 c.loop-from.channel _ (c.loop-from.invariant c.args.node.0 (omega arith) (reads_at _ _ _ _ c.index-channel.ensures c.from-2.ensures)) (omega arith)
-    c.way_back-then-from-count.ensures low
-
-pub returns-else-from-count : goal.returns-else-from-count
-returns-else-from-count c =
-    none_entering c.args.self.now c.args.from.0 c.args.node.0 c.loop-from.channel (c.loop-from.invariant c.args.node.0 (omega arith) (reads_at _ _ _ _ c.index-channel.ensures c.from-2.ensures)) (omega arith)
+pub returns : goal.returns
+returns c =
+    let list = c.leaving.result.now in
+    let n = c.args.from.0 in
+    let all = c.leaving.ensures in
+    let r = c.args.self.now in
+    let v = c.args.node.0 in
+    first_from (Entering r v) (map way_back list) (entering r v list (record { each = all.each; every = all.every; ascending = all.ascending })) n c.find.result
+    (first_from_find _ _ c.find.result (λ x. n ≤ x.0) (λ x. x.0 < n) c.find.ensures.ran (YieldsList-from_map _ way_back (YieldsList-from_slice list cc) c.map.ensures.closure (λ x q k m. search (rules, tests))) (λ x q k. search (rules, tests)) (λ x q k. search (rules, tests)))

@@ -1,10 +1,14 @@
-use Rattle.std.proofs.Common.{arith}
-use Rattle.rack.proofs.Facts.{tail_below}
-use Rattle.rack.proofs.Walks.{itself, walks_start}
+use Rattle.std.proofs.Common.{◌<◌, ◌≤◌, rules, tests}
+use Rattle.std.proofs.lemmas.Iterator.{YieldsList-from_slice, first_from_find}
+use Rattle.std.proofs.lemmas.Iterator.Consumers.{YieldsList-from_copied}
+use Rattle.rack.specs.Racks.{Leaving}
+use Rattle.rack.proofs.Searches.{first_from}
 use Rattle.rack.proofs.rack.Rack.next_leaving.Goals as goal
 
-pub returns-then-from-len : goal.returns-then-from-len
-returns-then-from-len c = λ d low out. omega (arith, tail_below c.args.self.now d out.0, out.1)
-
-pub loop-from-init : goal.loop-from-init
-loop-from-init c = walks_start c.args.self.now itself c.args.from.0 _
+pub returns : goal.returns
+returns c =
+    let list = c.leaving.result.now in
+    let n = c.args.from.0 in
+    let all = c.leaving.ensures in
+    first_from (Leaving c.args.self.now c.args.node.0) list (record { each = all.each; every = all.every; ascending = all.ascending }) n c.find.result
+    (first_from_find _ _ c.find.result (λ x. n ≤ x.0) (λ x. x.0 < n) c.find.ensures.ran (YieldsList-from_copied (YieldsList-from_slice list cc)) (λ x q k. search (rules, tests)) (λ x q k. search (rules, tests)))
