@@ -8,13 +8,14 @@ use Rattle.rack.specs.declared.cable.End.{End}
 use Rattle.reading.specs.declared.fault.FileFault.{FileFault}
 use Rattle.reading.specs.declared.limits.Limits.{Limits}
 use Rattle.reading.specs.declared.record.Entry.{Entry}
-use Rattle.reading.specs.declared.record.Kind.{Kind}
-use Rattle.reading.specs.declared.record.Kind.TheVariants.{Host, Switch}
+use Rattle.rack.specs.declared.kind.Kind.{Kind}
+use Rattle.rack.specs.declared.kind.Kind.TheVariants.{Host, Switch}
 use Rattle.reading.specs.declared.record.Record.{Record}
 use Rattle.reading.specs.declared.record.Record.TheVariants.{Node, Joins, Forwards}
 use Rattle.reading.specs.Format.{said}
 use Rattle.rack.specs.Network.{none, channels, tail_end, JoinsPorts, FreeEnd, KnownKinds, AllJoin, Apart, KeepsRules}
-use Rattle.reading.specs.Rules.{Described, Kept, asked, grown, described, Fine, Shown, Names, nothing, code, Answers}
+use Rattle.rack.specs.Kinds.{code}
+use Rattle.reading.specs.Rules.{Described, Kept, asked, grown, described, Fine, Shown, Names, nothing, Answers}
 use Rattle.reading.proofs.TailEnds.{tail_first, tail_second, none_leaves}
 use Rattle.rack.proofs.ShownTables.{shows_front}
 use Rattle.reading.proofs.OneMore.{Bounds, bounds_more}

@@ -1,4 +1,5 @@
 pub mod TailEnds
 pub mod ForwardingPlaces
 pub mod OneMore
+pub mod Records
 pub mod KeptRules

@@ -8,7 +8,8 @@ use Rattle.reading.specs.declared.record.Record.{Record}
 use Rattle.reading.specs.declared.record.Record.TheVariants.{Node, Joins, Forwards}
 use Rattle.reading.specs.Format.{said}
 use Rattle.rack.specs.Network.{none, Lonely, Uncabled}
-use Rattle.reading.specs.Rules.{Described, Kept, asked, grown, described, code, Shown, Alone}
+use Rattle.rack.specs.Kinds.{code}
+use Rattle.reading.specs.Rules.{Described, Kept, asked, grown, described, Shown, Alone}
 use Rattle.rack.proofs.ShownTables.{shows_front}
 
 pub described_more : (f : List ℕ) (i : ℕ) → described f (i + 1) ≡ grown (described f i) (said f i)

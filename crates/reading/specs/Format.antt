@@ -3,7 +3,7 @@ use Rattle.std.specs.Prelude.{ℕ, ◌+◌, ◌*◌, Bool, cond, ◌&&◌, List,
 use Rattle.std.specs.List.{between}
 use Rattle.reading.specs.declared.record.Record.{Record}
 use Rattle.reading.specs.declared.record.Record.TheVariants.{Node, Joins, Forwards}
-use Rattle.reading.specs.declared.record.Kind.TheVariants.{Host, Switch}
+use Rattle.rack.specs.declared.kind.Kind.TheVariants.{Host, Switch}
 use Rattle.rack.specs.declared.cable.End.{End}
 
 -- a two-byte number, high byte first

@@ -1,9 +1,7 @@
 -- The rules that a record keeps, given the network that the records before it describe, and what reading answers. Assumes nothing.
-use Rattle.std.specs.Prelude.{◌≡◌, ℕ, zero, suc, ◌+◌, ◌*◌, ◌/◌, ◌%◌, ◌<◌, ◌≤◌, ◌⊎◌, List, [], ◌∷◌, ◌++◌, length, get_or, Some, None, Ok, Err, Option, Result, MatchResult, slice_index, slice_index_or}
+use Rattle.std.specs.Prelude.{◌≡◌, ℕ, zero, suc, ◌+◌, ◌*◌, ◌/◌, ◌%◌, ◌^◌, ◌<◌, ◌≤◌, ◌⊎◌, List, [], ◌∷◌, ◌++◌, length, get_or, Some, None, Ok, Err, Option, Result, MatchResult, slice_index, slice_index_or}
 use Rattle.rack.specs.declared.cable.Cable.{Cable}
 use Rattle.reading.specs.declared.record.Entry.{Entry}
-use Rattle.reading.specs.declared.record.Kind.{Kind}
-use Rattle.reading.specs.declared.record.Kind.TheVariants.{Host, Switch}
 use Rattle.reading.specs.declared.record.Record.{Record}
 use Rattle.reading.specs.declared.record.Record.TheVariants.{Node, Joins, Forwards}
 use Rattle.reading.specs.declared.limits.Limits.{Limits}
@@ -13,6 +11,7 @@ use Rattle.reading.specs.declared.fault.FileFault.TheVariants.{Tables, Length, R
 use Rattle.reading.specs.declared.fault.Rule.{Rule}
 use Rattle.reading.specs.declared.fault.Rule.TheVariants.{Form, Many, Number, End, Taken, Forwarding}
 use Rattle.reading.specs.Format.{said}
+use Rattle.rack.specs.Kinds.{code}
 use Rattle.rack.specs.Network.{port_of, none, HostAt, SwitchAt, JoinsPorts, FreeEnd, Lonely, Leaves}
 
 -- what a run of records describes: the nodes in order, 1 a host and 2 a switch, the cables and the forwarding entries
@@ -64,11 +63,6 @@ Kept (d ∷ ds) = d.holds × Kept ds
 abbrev pub Breaks : List Asks → Rule → Type 0
 Breaks [] r = ⊥
 Breaks (d ∷ ds) r = ((d.rule ≡ r) × (d.holds → ⊥)) ⊎ (d.holds × Breaks ds r)
-
--- a kind's number in the node table
-abbrev pub code : Kind → ℕ
-code Host = 1
-code Switch = 2
 
 -- what is described with one record more
 abbrev pub grown : Described → Option Record → Described
@@ -125,6 +119,14 @@ Answers limits f (Err (Bare v)) nodes cables forwarding =
 -- the tables have the places that reading asks for
 abbrev pub Sized : List ℕ → List Cable → List ℕ → Type 0
 Sized nodes cables forwarding = (128 ≤ length nodes) × (256 ≤ length cables) × (16384 ≤ length forwarding)
+
+-- the tables have just those places
+abbrev pub Fitting : List ℕ → List Cable → List ℕ → Type 0
+Fitting nodes cables forwarding = (length nodes ≡ 128) × (length cables ≡ 256) × (length forwarding ≡ 16384)
+
+-- there are no more nodes and cables than the tables have places, and one entry more can be counted
+abbrev pub CountsFit : Counts → Type 0
+CountsFit counts = (counts.nodes ≤ 128) × (counts.cables ≤ 256) × (counts.entries < 2 ^ 61)
 
 -- every place is zero
 abbrev pub Blank : List ℕ → List Cable → List ℕ → Type 0

@@ -1,13 +1,13 @@
 // Adds one record to the tables, or says which rule it breaks.
-ghost use Rattle.std.specs.Prelude.{◌≡◌, ℕ, ◌+◌, ◌*◌, ◌^◌, ◌<◌, ◌≤◌, List, length, Some, MatchOption, slice_index};
+ghost use Rattle.std.specs.Prelude.{◌≡◌, ℕ, ◌+◌, ◌*◌, ◌≤◌, List, length, Some, MatchOption, slice_index};
 ghost use Rattle.rack.specs.Network.{Leaves};
-ghost use Rattle.reading.specs.Rules.{Described, Shown, Judged};
+ghost use Rattle.reading.specs.Rules.{Described, Shown, Judged, CountsFit};
 
 use crate::fault::Rule;
 use crate::limits::Limits;
 use crate::record::{Entry, Kind, Record};
 use rack::cable::{Cable, End};
-use rack::ends::{cable_at, joins_ports, kind_at};
+use rack::ends::{cable_at, is_host_at, is_switch_at, joins_ports};
 use rack::numbers::Node;
 
 // How many records of each group there are.
@@ -16,16 +16,6 @@ pub struct Counts {
     pub nodes: usize,
     pub cables: usize,
     pub entries: usize,
-}
-
-// The kind's number in the node table.
-fn code(kind: Kind) -> u8
-    ensures { result ≡ Rattle.reading.specs.Rules.code kind }
-{
-    match kind {
-        Kind::Host => 1,
-        Kind::Switch => 2,
-    }
 }
 
 pub(crate) fn add_node(
@@ -47,7 +37,7 @@ pub(crate) fn add_node(
     if usize::from(number.0) != counts.nodes {
         return Err(Rule::Number);
     }
-    nodes[counts.nodes] = code(kind);
+    nodes[counts.nodes] = u8::from(kind);
     Ok(Counts {
         nodes: counts.nodes + 1,
         cables: 0,
@@ -93,15 +83,13 @@ fn channel(cables: &[Cable], end: End) -> Option<u16>
     requires { length cables.now ≤ 256 }
     ensures { MatchOption result ((c : ℕ) → Leaves cables.now end c → ⊥) (λ c. Leaves cables.now end c) }
 {
-    let mut first = 0;
-    for cable in cables {
+    for (k, cable) in cables.iter().enumerate() {
         if cable.first == end {
-            return Some(first);
+            return Some(2 * k as u16);
         }
         if cable.second == end {
-            return Some(first + 1);
+            return Some(2 * k as u16 + 1);
         }
-        first += 2;
     }
     None
 }
@@ -121,12 +109,13 @@ pub(crate) fn add_entry(
     counts: Counts,
     entry: Entry,
 ) -> Result<Counts, Rule>
-    requires tables { (length cables.now ≡ 256) × (length forwarding.old ≡ 16384) }
-    requires counts { (counts.nodes ≤ 128) × ((counts.cables ≤ 256) × (counts.entries < 2 ^ 61)) }
+    requires cables { length cables.now ≡ 256 }
+    requires forwarding { length forwarding.old ≡ 16384 }
+    requires counts { CountsFit counts }
     requires beyond { (k : ℕ) → counts.nodes ≤ k → slice_index nodes.now k ≡ 0 }
     ensures { (limits : Limits) (net : Described) → Shown net counts nodes.now cables.now forwarding.old → Judged limits net (Some (Record.Forwards entry)) result nodes.now cables.now forwarding.new }
 {
-    if kind_at(nodes, entry.switch) != 2 || kind_at(nodes, entry.host) != 1 {
+    if !is_switch_at(nodes, entry.switch) || !is_host_at(nodes, entry.host) {
         return Err(Rule::Forwarding);
     }
     let count = counts.cables;

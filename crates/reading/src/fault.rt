@@ -59,7 +59,7 @@ impl FileFault {
         }
     }
 
-    // The record or the host that the refusal is about; 0 where it is about none.
+    // The record or the host that the refusal is about; 0 where it is about none, as in the line that tells it.
     pub fn record(self) -> usize
         ensures { result ≡ (file_refusal self).about }
     {

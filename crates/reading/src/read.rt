@@ -1,8 +1,8 @@
 // Reads a file into the tables.
-ghost use Rattle.std.specs.Prelude.{◌≡◌, ℕ, ◌+◌, ◌*◌, ◌^◌, ◌<◌, ◌≤◌, false, length, take, drop, is_ok, IfOk, Err, slice_index};
+ghost use Rattle.std.specs.Prelude.{◌≡◌, ℕ, ◌≤◌, false, take, drop, is_ok, IfOk, Err, slice_index};
 ghost use Rattle.rack.specs.Network.{KeepsRules};
 ghost use Rattle.reading.specs.Format.{decoded};
-ghost use Rattle.reading.specs.Rules.{Described, Shown, Judged, Answers, Sized, Blank};
+ghost use Rattle.reading.specs.Rules.{Described, Shown, Judged, Answers, Sized, Fitting, CountsFit, Blank};
 
 use crate::add::{Counts, add_cable, add_entry, add_node};
 use crate::fault::{FileFault, Rule};
@@ -12,6 +12,7 @@ use rack::cable::Cable;
 use rack::ends::lonely_host;
 
 // Adds the record that the bytes spell.
+// The three tables stay lent slices: a struct that held them beside the fact that they fit is not covered by the borrow checker.
 fn step(
     bytes: &[u8],
     limits: Limits,
@@ -20,8 +21,8 @@ fn step(
     forwarding: &mut [u16],
     counts: Counts,
 ) -> Result<Counts, Rule>
-    requires tables { (length nodes.old ≡ 128) × ((length cables.old ≡ 256) × (length forwarding.old ≡ 16384)) }
-    requires counts { (counts.nodes ≤ 128) × ((counts.cables ≤ 256) × (counts.entries < 2 ^ 61)) }
+    requires tables { Fitting nodes.old cables.old forwarding.old }
+    requires counts { CountsFit counts }
     requires beyond { (k : ℕ) → counts.nodes ≤ k → slice_index nodes.old k ≡ 0 }
     ensures { (net : Described) → Shown net counts nodes.old cables.old forwarding.old → Judged limits net (decoded bytes.now) result nodes.new cables.new forwarding.new }
 {
@@ -41,7 +42,7 @@ fn fill(
     cables: &mut [Cable],
     forwarding: &mut [u16],
 ) -> Result<Counts, FileFault>
-    requires tables { (length nodes.old ≡ 128) × ((length cables.old ≡ 256) × (length forwarding.old ≡ 16384)) }
+    requires tables { Fitting nodes.old cables.old forwarding.old }
     requires blank { Blank nodes.old cables.old forwarding.old }
     ensures { Answers limits file.now result nodes.new cables.new forwarding.new }
 {
@@ -53,17 +54,11 @@ fn fill(
         cables: 0,
         entries: 0,
     };
-    for i in 0..file.len() / 8 {
-        match step(
-            &file[8 * i..8 * i + 8],
-            limits,
-            nodes,
-            cables,
-            forwarding,
-            counts,
-        ) {
+    for (record, bytes) in file.chunks_exact(8).enumerate() {
+        // a match: with `map_err` and `?` the proof of the refused case did not close
+        match step(bytes, limits, nodes, cables, forwarding, counts) {
             Ok(next) => counts = next,
-            Err(rule) => return Err(FileFault::Record { record: i, rule }),
+            Err(rule) => return Err(FileFault::Record { record, rule }),
         }
     }
     let laid = counts.cables;
@@ -89,18 +84,16 @@ fn fill_or_wipe(
     cables: &mut [Cable],
     forwarding: &mut [u16],
 ) -> Result<Counts, FileFault>
-    requires tables { (length nodes.old ≡ 128) × ((length cables.old ≡ 256) × (length forwarding.old ≡ 16384)) }
+    requires tables { Fitting nodes.old cables.old forwarding.old }
     ensures answers { Answers limits file.now result nodes.new cables.new forwarding.new }
     ensures blank { is_ok result ≡ false → Blank nodes.new cables.new forwarding.new }
 {
     wipe(nodes, cables, forwarding);
-    match fill(file, limits, nodes, cables, forwarding) {
-        Ok(counts) => Ok(counts),
-        Err(fault) => {
-            wipe(nodes, cables, forwarding);
-            Err(fault)
-        }
+    let answer = fill(file, limits, nodes, cables, forwarding);
+    if answer.is_err() {
+        wipe(nodes, cables, forwarding);
     }
+    answer
 }
 
 // The counts of nodes, cables and forwarding entries, and the tables; or the first fault, and the needed places of the tables zero.

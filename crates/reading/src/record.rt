@@ -3,14 +3,8 @@ ghost use Rattle.std.specs.Prelude.{◌≡◌};
 ghost use Rattle.reading.specs.Format.{decoded};
 
 use rack::cable::{Cable, End};
+pub use rack::kind::Kind;
 use rack::numbers::{Node, Port};
-
-// What a node is.
-#[derive(Clone, Copy, PartialEq, Eq, Debug)]
-pub enum Kind {
-    Host,
-    Switch,
-}
 
 // At the switch, what is for the host leaves by the port.
 #[derive(Clone, Copy, PartialEq, Debug)]
@@ -30,7 +24,7 @@ pub enum Record {
 fn word(high: u8, low: u8) -> u16
     ensures { result ≡ Rattle.reading.specs.Format.word high low }
 {
-    u16::from(high) * 256 + u16::from(low)
+    u16::from_be_bytes([high, low])
 }
 
 fn end(high: u8, low: u8, port: u8) -> End

@@ -14,10 +14,10 @@ returns-in_default c = λ limits net s.
 
 -- the switch and the host are nodes of the file
 switch_below : (c : In-Some) → c.args.entry.switch.0 < c.args.counts.nodes
-switch_below c = below_count _ _ _ 2 c.requires.beyond (sym c.kind_at.ensures ∙ c.if-kind_at-ne2.false) (omega arith)
+switch_below c = below_count _ _ _ 2 c.requires.beyond (c.is_switch_at.ensures.0 c.if-not-is_switch_at.false) (omega arith)
 
 host_below : (c : In-Some) → c.args.entry.host.0 < c.args.counts.nodes
-host_below c = below_count _ _ _ 1 c.requires.beyond (sym c.kind_at-else-kind_at-ne2.ensures ∙ c.if-kind_at-ne1.false) (omega arith)
+host_below c = below_count _ _ _ 1 c.requires.beyond (c.is_host_at.ensures.0 c.if-not-is_host_at.false) (omega arith)
 
 within : (c : In-Some) → c.args.counts.nodes * c.args.entry.switch.0 + c.args.entry.host.0 < length c.args.forwarding.now
 within c = let w = place_within c.args.counts.nodes c.args.entry.switch.0 c.args.entry.host.0 (omega arith) (switch_below c) (host_below c) in omega arith
@@ -41,8 +41,8 @@ returns c = λ limits net s.
     let low : v < length net.nodes = omega (arith, host_below some) in (
       (
         (
-          sym (s.node w) ∙ sym c.kind_at.ensures ∙ c.if-kind_at-ne2.false,
-          sym (s.node v) ∙ sym c.kind_at-else-kind_at-ne2.ensures ∙ c.if-kind_at-ne1.false,
+          sym (s.node w) ∙ c.is_switch_at.ensures.0 c.if-not-is_switch_at.false,
+          sym (s.node v) ∙ c.is_host_at.ensures.0 c.if-not-is_host_at.false,
           (c.in-Some.leaving, leaves),
           ⊎_elim (λ (h : (get_or c.args.forwarding.now (length net.nodes * w + v) 0 ≡ 0) × ((k : ℕ) → k < length net.entries → Names (get_or net.entries k nothing) w v → ⊥)). h.1) (λ h. absurd (omega (arith, h.5))) (s.hop w v low),
         ),

@@ -1,52 +1,64 @@
-use Rattle.std.proofs.Common.{◌≡◌, ◌-◌, ◌/◌, length, sym, ◌∙◌, subst, arith, rules, below_more}
-use Rattle.std.proofs.lemmas.List.{get_or_past}
-use Rattle.reading.specs.Format.{said}
-use Rattle.reading.specs.Rules.{Described, Shown, Kept, asked, described}
+use Rattle.std.proofs.Common.{◌≡◌, ◌+◌, ◌-◌, ◌*◌, ◌/◌, length, drop, Err, sym, ◌∙◌, ap, subst, arith, rules, below_more}
+use Rattle.reading.specs.declared.fault.FileFault.TheVariants.{Record as Broken}
+use Rattle.reading.specs.Format.{said, decoded}
+use Rattle.reading.specs.Rules.{Described, Shown, Kept, Fine, Breaks, asked, grown, described, Answers}
 use Rattle.reading.proofs.OneMore.{described_more, Bounds, bounds_more, lonely_alike}
+use Rattle.reading.proofs.Records.{record_here, records_end}
 use Rattle.reading.proofs.read.fill.Goals as goal
 
-pub step-requires : goal.step-requires
-step-requires c =
-    let s = c.loop-i.invariant.0 in
-    record {
-      tables = search rules;
-      counts = search rules;
-      beyond = λ k h. s.node k ∙ get_or_past (described c.args.file.now c.loop-i.i).nodes k 0 (omega (arith, s.node_count));
-    }
-
-pub loop-i-preserved : goal.loop-i-preserved
-loop-i-preserved c =
+pub loop-record-preserved : goal.loop-record-preserved
+loop-record-preserved c =
     let f = c.args.file.now in
     let limits = c.args.limits in
-    let i = c.loop-i.i in
-    let s = c.loop-i.invariant.0 in
+    let i = c.loop-record.record-iterator.count in
+    let s = c.loop-record.invariant.5 in
+    let taken = c.in-Some.ensures.steps in
+    let here = record_here f c.in-Some.bytes.now _ i (sym c.loop-record.invariant.3 ∙ taken.0.1.0) (taken.0.1.1 ∙ c.loop-record.invariant.2) in
     let told = c.in-Ok.ensures (described f i) s in
-    let kept : Kept (asked limits (described f i) (said f i)) = told.0 in
+    let kept : Kept (asked limits (described f i) (said f i)) = subst (λ b. Kept (asked limits (described f i) (decoded b))) (sym here.0) told.0 in
     let bounds : Bounds (described f i) i = (omega (arith, s.node_count), omega (arith, s.cable_count), omega (arith, s.entry_count)) in
     let more = bounds_more limits (described f i) i (said f i) kept bounds in
-    let shown = told.1 in (
-      subst (λ (net : Described). Shown net c.in-Ok.next c.step.new.nodes c.step.new.cables c.step.new.forwarding) (sym (described_more f i)) shown,
-      below_more (λ j. Kept (asked limits (described f j) (said f j))) i c.loop-i.invariant.1 kept,
+    let shown : Shown (grown (described f i) (said f i)) c.in-Ok.next c.step.new.nodes c.step.new.cables c.step.new.forwarding = subst (λ b. Shown (grown (described f i) (decoded b)) c.in-Ok.next c.step.new.nodes c.step.new.cables c.step.new.forwarding) (sym here.0) told.1 in
+    let fine : Fine limits f (i + 1) = below_more (λ j. Kept (asked limits (described f j) (said f j))) i c.loop-record.invariant.6 kept in (
+      search rules,
+      tt,
+      taken.0.0 ∙ c.loop-record.invariant.2,
+      here.1 ∙ ap (λ k. drop (8 * k) f) (sym taken.2),
+      omega (arith, here.2, taken.2),
+      subst (λ k. Shown (described f k) c.in-Ok.next c.step.new.nodes c.step.new.cables c.step.new.forwarding) (sym taken.2)
+          (subst (λ (net : Described). Shown net c.in-Ok.next c.step.new.nodes c.step.new.cables c.step.new.forwarding) (sym (described_more f i)) shown),
+      subst (Fine limits f) (sym taken.2) fine,
       omega (arith, shown.node_count, more.0),
       omega (arith, shown.cable_count, more.1),
-      omega (arith, shown.entry_count, more.2),
+      omega (arith, shown.entry_count, more.2, taken.2),
     )
 
-pub returns-in-Some : goal.returns-in-Some
-returns-in-Some c =
+pub returns-in-Err : goal.returns-in-Err
+returns-in-Err c =
     let f = c.args.file.now in
-    let m = length f / 8 in
-    let end : c.loop-i.i ≡ m = omega arith in
-    let s : Shown (described f m) c.loop-i.counts c.loop-i.nodes c.loop-i.cables c.loop-i.forwarding = rw end at c.loop-i.invariant.0 in
-    let alike = lonely_alike _ _ _ _ _ (c.loop-i.counts.cables - 0) s (omega arith) (omega arith) in
-    let told = c.in-Some.ensures in
-    (c.if-file-ne0.false, rw end at c.loop-i.invariant.1, (alike c.in-Some.host).0 told.0, λ u low alone. told.1 u low ((alike u).1 alone))
+    let i = c.loop-record.record-iterator.count in
+    let taken = c.in-Some.ensures.steps in
+    let here = record_here f c.in-Some.bytes.now _ i (sym c.loop-record.invariant.3 ∙ taken.0.1.0) (taken.0.1.1 ∙ c.loop-record.invariant.2) in
+    let told = c.in-Err.ensures (described f i) c.loop-record.invariant.5 in
+    let broken = subst (λ b. Breaks (asked c.args.limits (described f i) (decoded b)) c.in-Err.rule) (sym here.0) told in
+    subst (λ k. Answers c.args.limits f (Err (Broken k c.in-Err.rule)) c.step.new.nodes c.step.new.cables c.step.new.forwarding) (omega (arith, taken.1))
+    (c.if-file-ne0.false, omega (arith, here.2), c.loop-record.invariant.6, broken)
 
-pub returns-in-None : goal.returns-in-None
-returns-in-None c =
+pub returns-in-Some-lonely_host : goal.returns-in-Some-lonely_host
+returns-in-Some-lonely_host c =
     let f = c.args.file.now in
     let m = length f / 8 in
-    let end : c.loop-i.i ≡ m = omega arith in
-    let s : Shown (described f m) c.loop-i.counts c.loop-i.nodes c.loop-i.cables c.loop-i.forwarding = rw end at c.loop-i.invariant.0 in
-    let alike = lonely_alike _ _ _ _ _ (c.loop-i.counts.cables - 0) s (omega arith) (omega arith) in
-    (c.if-file-ne0.false, rw end at c.loop-i.invariant.1, λ u alone. c.in-None.ensures u ((alike u).1 alone), s)
+    let end : c.loop-record.record-iterator.count ≡ m = records_end f _ _ c.loop-record.invariant.3 (omega (arith, c.in-None.ensures.steps.0.1.0, c.loop-record.invariant.2)) c.loop-record.invariant.4 in
+    let s : Shown (described f m) c.loop-record.counts c.loop-record.nodes c.loop-record.cables c.loop-record.forwarding = rw end at c.loop-record.invariant.5 in
+    let alike = lonely_alike _ _ _ _ _ (c.loop-record.counts.cables - 0) s (omega arith) (omega arith) in
+    let told = c.in-Some-lonely_host.ensures in
+    (c.if-file-ne0.false, rw end at c.loop-record.invariant.6, (alike c.in-Some-lonely_host.host).0 told.0, λ u low alone. told.1 u low ((alike u).1 alone))
+
+pub returns-in-None-lonely_host : goal.returns-in-None-lonely_host
+returns-in-None-lonely_host c =
+    let f = c.args.file.now in
+    let m = length f / 8 in
+    let end : c.loop-record.record-iterator.count ≡ m = records_end f _ _ c.loop-record.invariant.3 (omega (arith, c.in-None.ensures.steps.0.1.0, c.loop-record.invariant.2)) c.loop-record.invariant.4 in
+    let s : Shown (described f m) c.loop-record.counts c.loop-record.nodes c.loop-record.cables c.loop-record.forwarding = rw end at c.loop-record.invariant.5 in
+    let alike = lonely_alike _ _ _ _ _ (c.loop-record.counts.cables - 0) s (omega arith) (omega arith) in
+    (c.if-file-ne0.false, rw end at c.loop-record.invariant.6, λ u alone. c.in-None-lonely_host.ensures u ((alike u).1 alone), s)
