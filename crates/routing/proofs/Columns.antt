@@ -1,5 +1,5 @@
 -- How a column of a distance table grows. Assumes nothing.
-use Rattle.std.proofs.Common.{◌≡◌, ℕ, ◌+◌, ◌*◌, ◌/◌, ◌%◌, ◌<◌, ◌≤◌, Bool, true, false, ◌⊎◌, List, length, get_or, set, sym, refl, ap, ◌∙◌, subst, inl, inr, ⊎_elim, mul_comm, arith}
+use Rattle.std.proofs.Common.{◌≡◌, ℕ, ◌+◌, ◌*◌, ◌/◌, ◌%◌, ◌<◌, ◌≤◌, Bool, true, false, ◌⊎◌, List, length, set, sym, refl, ap, ◌∙◌, subst, inl, inr, ⊎_elim, mul_comm, arith}
 use Rattle.std.proofs.lemmas.Nat.{mul-add-lt, div-mul-add, mod-mul-add}
 use Rattle.std.proofs.lemmas.List.{get_or-set_same, get_or-set_other}
 use Rattle.std.proofs.lemmas.Bool.{cases_eq, cases_Bool, true≢false}
@@ -8,13 +8,6 @@ use Rattle.routing.specs.Ways.{far, Beside, Grown}
 -- a pair's place lies in the table
 pub pair_below : (n w v : ℕ) → w < n → v < n → n * w + v < n * n
 pair_below n w v h l = omega (arith, mul-add-lt w n v n h l)
-
-pub place_in : (m n a w v len : ℕ) → m ≡ n → a ≡ w → w < n → v < n → n * n ≤ len → m * a + v < len
-place_in m n a w v len e f h l long = rw (e, f) (omega (arith, pair_below n w v h l))
-
--- the place as the code has it
-pub far_at : (m n v w : ℕ) (t : List ℕ) → m ≡ n → get_or t (m * w + v) 0 ≡ far n v t w
-far_at m n v w t e = rw e
 
 -- a place is of one pair
 pub same_pair : (n w v a b : ℕ) → v < n → b < n → n * w + v ≡ n * a + b → (w ≡ a) × (v ≡ b)
@@ -33,9 +26,6 @@ far_set_other n v u x t l w ne = get_or-set_other t (n * u + v) (n * w + v) x 0 
 
 pub beside_set : (n v u x : ℕ) (t : List ℕ) → u < n → Beside n v t (set t (n * u + v) x)
 beside_set n v u x t h k off = get_or-set_other t (n * u + v) k x 0 (λ e. off u h e)
-
-pub beside_set_at : (n v u x : ℕ) (t : List ℕ) → u < n → (m : ℕ) → m ≡ n → Beside n v t (set t (m * u + v) x)
-beside_set_at n v u x t h m e = rw e (beside_set n v u x t h)
 
 pub beside_join : (n v : ℕ) (a b c : List ℕ) → Beside n v a b → Beside n v b c → Beside n v a c
 beside_join n v a b c p q k off = q k off ∙ p k off

@@ -1,4 +1,5 @@
 pub mod Tests
+pub mod Leavers
 pub mod Sourced
 pub mod Lanes
 pub mod Hops

@@ -46,10 +46,6 @@ module _ (r : Rack) (v : ℕ) (old : List ℕ) (l : v < node_count r) (long : no
     room = omega (arith, missing_few (node_count r) v v first l (λ e. omega (arith, here)));
   }
 
-  -- as the code has it: at the place m v + v
-  pub settled_start_at : (m : ℕ) → m ≡ node_count r → Settled r v 0 (set old (m * v + v) 0)
-  settled_start_at m e = rw e settled_start
-
 -- one round
 module _ (r : Rack) (v d : ℕ) (old new : List ℕ) (found : Bool) (few : d < 128) (l : v < node_count r) (settled : Settled r v d old) (round : Spread r v d (node_count r) old new found) where
   abbrev before : ℕ → ℕ

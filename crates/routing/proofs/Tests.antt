@@ -1,6 +1,7 @@
 -- What the rack answers, as the tests of the specifications. Assumes nothing.
-use Rattle.std.proofs.Common.{◌≡◌, ℕ, ◌<◌, ◌≤◌, Bool, true, false, ◌&&◌, ltb, get_or, sym, refl, ap, ◌∙◌, ⊎_elim, arith, ltb-true, le-ltb, lt-ltb, eq-eqb, ne_eqb, eqb-true}
+use Rattle.std.proofs.Common.{◌≡◌, ℕ, ◌<◌, ◌≤◌, Bool, true, false, ◌&&◌, ltb, get_or, Some, None, Option, is_some, MatchOption, sym, refl, ap, ◌∙◌, ⊎_elim, arith, ltb-true, le-ltb, lt-ltb, eq-eqb, ne_eqb, eqb-true}
 use Rattle.std.proofs.lemmas.Bool.{cases_lt}
+use Rattle.rack.specs.declared.numbers.Node.{Node}
 use Rattle.rack.specs.declared.rack.Rack.{Rack}
 use Rattle.rack.specs.Racks.{nodes_of, channel_count, head, tail, Host, EntersSwitch}
 use Rattle.routing.specs.Sources.{enters_switch, is_end}
@@ -38,6 +39,15 @@ module _ (r : Rack) where
       (λ (l : c < channel_count r). snd_off _ _ (ne_eqb (get_or (nodes_of r) (head r c) 0) 2 (λ e. none (head r c) (l, refl, e))))
       (λ (l : channel_count r ≤ c). fst_off _ _ (le-ltb c (channel_count r) l))
       (cases_lt c (channel_count r))
+
+  -- by whether a switch was told
+  pub told_entered : (c : ℕ) (o : Option Node) → MatchOption o ((w : ℕ) → EntersSwitch r c w → ⊥) (λ w. EntersSwitch r c w.0) → is_some o ≡ true → enters_switch r c ≡ true
+  told_entered c None h e = absurd (cc)
+  told_entered c (Some w) h e = enters_yes c w.0 h
+
+  pub told_left : (c : ℕ) (o : Option Node) → MatchOption o ((w : ℕ) → EntersSwitch r c w → ⊥) (λ w. EntersSwitch r c w.0) → is_some o ≡ false → enters_switch r c ≡ false
+  told_left c None h e = enters_no c h
+  told_left c (Some w) h e = absurd (cc)
 
   pub entered : (c : ℕ) → enters_switch r c ≡ true → EntersSwitch r c (head r c)
   entered c e = (ltb-true c (channel_count r) (both_fst _ _ e), refl, eqb-true (get_or (nodes_of r) (head r c) 0) 2 (both_snd (ltb c (channel_count r)) _ e))

@@ -35,9 +35,10 @@ module _ (g : Routing) (lanes : ℕ) (p : Pair) (s : ℕ) where
       subst (λ (x : Step). OnPath g p.sender.0 p.receiver.0 s k (hop_of x)) (sym (get_or_push path at d k last)) (subst (λ n. OnPath g p.sender.0 p.receiver.0 s n (hop_of at)) same on))
       (cases_lt k (length path))
 
-  pub walking_start : (at : Step) → PairOf g.rack p.sender.0 p.receiver.0 → Leaving g.rack p.sender.0 at.channel.0 → at.lane.number ≡ 0 → Walking g lanes p s at.channel.0 0 at (at ∷ [])
-  walking_start at pair leaving lane =
-      let first : hop_at g at.channel.0 p.receiver.0 s 0 ≡ Some (hop_of at) = ap (λ q. Some (hop at.channel.0 q)) (sym lane) in
+  pub walking_start : (at : Step) (path : List Step) → path ≡ at ∷ [] → PairOf g.rack p.sender.0 p.receiver.0 → Leaving g.rack p.sender.0 at.channel.0 → at.lane.number ≡ 0 → Walking g lanes p s at.channel.0 0 at path
+  walking_start at path is pair leaving lane =
+      rw is
+      (let first : hop_at g at.channel.0 p.receiver.0 s 0 ≡ Some (hop_of at) = ap (λ q. Some (hop at.channel.0 q)) (sym lane) in
       record {
         pair = pair;
         leaving = leaving;
@@ -45,7 +46,7 @@ module _ (g : Routing) (lanes : ℕ) (p : Pair) (s : ℕ) where
         low = λ j k a b. absurd (omega arith);
         long = refl;
         lists = lists_more [] at 0 refl (at.channel.0, leaving, first) (λ k d l. absurd (omega arith));
-      }
+      })
 
   module _ (first i : ℕ) (at : Step) (path : List Step) (w : Walking g lanes p s first i at path) where
     pub reaches : Reaches g lanes p.sender.0 p.receiver.0 s i (hop_of at)
@@ -55,11 +56,12 @@ module _ (g : Routing) (lanes : ℕ) (p : Pair) (s : ℕ) where
     at_below = hop_below g p.receiver.0 s first w.leaving.0 i (hop_of at) w.here
 
     pub walking_more :
-        (next : Step) (j : ℕ) → j ≡ i + 1 → enters_switch g.rack at.channel.0 ≡ true → g.next at.channel.0 p.receiver.0 ≡ Some next.channel.0 →
+        (next : Step) (j : ℕ) (more : List Step) → more ≡ path ++ next ∷ [] → j ≡ i + 1 → enters_switch g.rack at.channel.0 ≡ true → g.next at.channel.0 p.receiver.0 ≡ Some next.channel.0 →
         turns g.rack at.channel.0 next.channel.0 ≡ true → next.lane.number ≡ g.lane at.channel.0 next.channel.0 s → next.lane.number < lanes →
-        Walking g lanes p s first j next (path ++ next ∷ [])
-    walking_more next j n sw nx tn lane below =
-        let here : hop_at g first p.receiver.0 s j ≡ Some (hop_of next) =
+        Walking g lanes p s first j next more
+    walking_more next j more is n sw nx tn lane below =
+        rw is
+        (let here : hop_at g first p.receiver.0 s j ≡ Some (hop_of next) =
         hop_more g p.receiver.0 s first i j (hop_of at) next.channel.0 n w.here sw nx tn ∙ ap (λ q. Some (hop next.channel.0 q)) (sym lane) in
         record {
           pair = w.pair;
@@ -74,7 +76,7 @@ module _ (g : Routing) (lanes : ℕ) (p : Pair) (s : ℕ) where
               (cases_eq k j);
           long = length_push path next ∙ omega (arith, w.long);
           lists = lists_more path next j (w.long ∙ sym n) (first, w.leaving, here) w.lists;
-        }
+        })
 
     pub walked : enters_switch g.rack at.channel.0 ≡ false → head g.rack at.channel.0 ≡ p.receiver.0 → i < channel_count g.rack → Walked g lanes p s path
     walked sw e few =

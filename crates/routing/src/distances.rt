@@ -1,81 +1,92 @@
 // The fewest channels from every node to every host, through switches only.
-ghost use Rattle.std.specs.Prelude.{◌≡◌, ℕ, ◌*◌, ◌<◌, ◌≤◌, true, false, ◌⊎◌, length, drop, is_ok, Decides};
+ghost use Rattle.std.specs.Prelude.{◌≡◌, ℕ, ◌+◌, ◌*◌, ◌<◌, ◌≤◌, true, false, ◌⊎◌, length, drop, is_ok, Decides};
 ghost use Rattle.rack.specs.Racks.{node_count, channel_count, Switch};
 ghost use Rattle.routing.specs.Ways.{Distances, Fewest, far, Beside, Reached, Spread};
 
 use crate::fault::DistanceFault;
-use rack::numbers::{Channel, Node};
+use crate::pair::Pair;
+use rack::numbers::Node;
 use rack::rack::Rack;
 
-// What the distance table holds where there is no way.
+// What the distance table, whose places are bytes, holds where there is no way.
 pub const NO_WAY: u8 = 255;
 
-// Gives that distance to the host to each node that has no way yet and from which a channel leads to `node`; whether there was one.
-fn reach(rack: &Rack, distances: &mut [u8], node: Node, host: usize, distance: u8) -> bool
-    requires within { host < node_count rack.now }
-    requires room { node_count rack.now * node_count rack.now ≤ length distances.old }
-    requires small { distance < 255 }
-    ensures { Reached rack.now host node.0 distance (channel_count rack.now) distances.old distances.new result }
-{
-    let count = rack.node_count();
-    let mut found = false;
-    let mut from = Channel(0);
-    while let Some(channel) = rack.next_entering(node, from) {
-        if let Some(ends) = rack.ends(channel) {
-            let place = count * usize::from(ends.tail.node.0) + host;
-            if distances[place] == NO_WAY {
-                distances[place] = distance;
-                found = true;
+// The column of a node in the distance table: the places of the distances to it.
+// The table itself is lent by each call, since no struct holds a `&mut` beside a fact; so that it has room is a clause there.
+#[derive(Clone, Copy)]
+struct Column<'a> {
+    rack: &'a Rack,
+    host: Node,
+    ghost within: { host.0 < node_count rack.now },
+}
+
+impl Column<'_> {
+    // The place of the distance from a node.
+    fn place(&self, node: Node) -> usize
+        ensures { result ≡ node_count self.now.rack.now * node.0 + self.now.host.0 }
+    {
+        let pair = Pair {
+            sender: node,
+            receiver: self.host,
+        };
+        pair.place(self.rack)
+    }
+
+    // Gives that distance to each node that has no way yet and from which a channel leads to `node`; whether there was one.
+    fn reach(&self, distances: &mut [u8], node: Node, distance: u8) -> bool
+        requires room { node_count self.now.rack.now * node_count self.now.rack.now ≤ length distances.old }
+        requires small { distance < 255 }
+        ensures { Reached self.now.rack.now self.now.host.0 node.0 distance (channel_count self.now.rack.now) distances.old distances.new result }
+    {
+        let mut found = false;
+        for channel in self.rack.leaving(node) {
+            // the other channel of the cable leads back to `node`
+            if let Some(ends) = self.rack.ends(*channel) {
+                let place = self.place(ends.head.node);
+                if distances[place] == NO_WAY {
+                    distances[place] = distance;
+                    found = true;
+                }
             }
         }
-        from = Channel(channel.0 + 1);
+        found
     }
-    found
-}
 
-// Whether a way to the host may go on from the node: it is the host itself or a switch.
-fn lets_through(rack: &Rack, node: Node, host: usize) -> bool
-    ensures { Decides result ((node.0 ≡ host) ⊎ Switch rack.now node.0) }
-{
-    if usize::from(node.0) == host {
-        return true;
+    // Whether a way to the host may go on from the node: it is the host itself or a switch.
+    fn lets_through(&self, node: Node) -> bool
+        ensures { Decides result ((node.0 ≡ self.now.host.0) ⊎ Switch self.now.rack.now node.0) }
+    {
+        node == self.host || self.rack.is_switch(node)
     }
-    rack.is_switch(node)
-}
 
-// One round: whatever has a channel to a node at that distance, the host itself or a switch, is one farther, if it has no way yet.
-fn spread(rack: &Rack, distances: &mut [u8], host: usize, distance: u8) -> bool
-    requires within { host < node_count rack.now }
-    requires room { node_count rack.now * node_count rack.now ≤ length distances.old }
-    requires small { distance < 128 }
-    ensures { Spread rack.now host distance (node_count rack.now) distances.old distances.new result }
-{
-    let count = rack.node_count();
-    let mut found = false;
-    for w in 0..count {
-        let node = Node(w as u16);
-        if distances[count * w + host] == distance && lets_through(rack, node, host) {
-            if reach(rack, distances, node, host, distance + 1) {
-                found = true;
+    // One round: whatever has a channel to a node at that distance, the host itself or a switch, is one farther, if it has no way yet.
+    fn spread(&self, distances: &mut [u8], distance: u8) -> bool
+        requires room { node_count self.now.rack.now * node_count self.now.rack.now ≤ length distances.old }
+        requires small { distance < 128 }
+        ensures { Spread self.now.rack.now self.now.host.0 distance (node_count self.now.rack.now) distances.old distances.new result }
+    {
+        let mut found = false;
+        for w in 0..self.rack.node_count() as u16 {
+            let node = Node(w);
+            if distances[self.place(node)] == distance && self.lets_through(node) {
+                found |= self.reach(distances, node, distance + 1);
             }
         }
+        found
     }
-    found
-}
 
-// The distances to one host, whose column holds no way yet.
-fn fill_host(rack: &Rack, distances: &mut [u8], host: usize)
-    requires within { host < node_count rack.now }
-    requires room { node_count rack.now * node_count rack.now ≤ length distances.old }
-    requires blank { (w : ℕ) → w < node_count rack.now → far (node_count rack.now) host distances.old w ≡ 255 }
-    ensures column { (w : ℕ) → w < node_count rack.now → Fewest rack.now host w (far (node_count rack.now) host distances.new w) }
-    ensures beside { Beside (node_count rack.now) host distances.old distances.new }
-{
-    let count = rack.node_count();
-    distances[count * host + host] = 0;
-    for distance in 0..count {
-        if !spread(rack, distances, host, distance as u8) {
-            return;
+    // The distances to the host, where the column holds no way yet.
+    fn fill(&self, distances: &mut [u8])
+        requires room { node_count self.now.rack.now * node_count self.now.rack.now ≤ length distances.old }
+        requires blank { (w : ℕ) → w < node_count self.now.rack.now → far (node_count self.now.rack.now) self.now.host.0 distances.old w ≡ 255 }
+        ensures column { (w : ℕ) → w < node_count self.now.rack.now → Fewest self.now.rack.now self.now.host.0 w (far (node_count self.now.rack.now) self.now.host.0 distances.new w) }
+        ensures beside { Beside (node_count self.now.rack.now) self.now.host.0 distances.old distances.new }
+    {
+        distances[self.place(self.host)] = 0;
+        for distance in 0..self.rack.node_count() as u8 {
+            if !self.spread(distances, distance) {
+                return;
+            }
         }
     }
 }
@@ -90,10 +101,11 @@ pub fn fill_distances(rack: &Rack, distances: &mut [u8]) -> Result<(), DistanceF
     if distances.len() < count * count {
         return Err(DistanceFault::Tables);
     }
-    distances[0..count * count].fill(NO_WAY);
-    for host in 0..count {
-        if rack.is_host(Node(host as u16)) {
-            fill_host(rack, distances, host);
+    distances[..count * count].fill(NO_WAY);
+    for v in 0..count as u16 {
+        let host = Node(v);
+        if rack.is_host(host) {
+            Column { rack, host }.fill(distances);
         }
     }
     Ok(())

@@ -1,10 +1,11 @@
 // The forwarding source that goes one channel nearer.
-ghost use Rattle.std.specs.Prelude.{◌≡◌, ◌+◌, ◌<◌, Decides};
+ghost use Rattle.std.specs.Prelude.{◌≡◌, ◌+◌, ◌<◌, Decides, MatchOption};
 ghost use Rattle.rack.specs.Racks.{channel_count, head};
 ghost use Rattle.routing.specs.Sources.{numbers, told, one_nearer, least, downhill_route};
 
 use crate::distances::NO_WAY;
-use crate::source::ForwardingSource;
+use crate::pair::Pair;
+use crate::source::{ForwardingSource, switch_towards};
 use rack::numbers::{Channel, Node};
 use rack::rack::Rack;
 
@@ -16,29 +17,28 @@ pub struct Downhill<'a> {
 }
 
 impl Downhill<'_> {
-    // The distance from a node to a host; 255 beyond the table.
-    fn distance(&self, node: Node, host: Node) -> u8
-        ensures { result ≡ told self.now.rack.now self.now.distances.now node.0 host.0 }
+    // The distance from a node to a host; none where there is no way, or beyond the table.
+    fn distance(&self, node: Node, host: Node) -> Option<u8>
+        ensures { MatchOption result (told self.now.rack.now self.now.distances.now node.0 host.0 ≡ 255) (λ d. (told self.now.rack.now self.now.distances.now node.0 host.0 ≡ d) × (d < 255)) }
     {
-        let place = self.rack.node_count() * usize::from(node.0) + usize::from(host.0);
-        if place < self.distances.len() {
-            self.distances[place]
-        } else {
-            NO_WAY
-        }
+        let pair = Pair {
+            sender: node,
+            receiver: host,
+        };
+        let distance = *self.distances.get(pair.place(self.rack))?;
+        (distance != NO_WAY).then_some(distance)
     }
 
     // Whether the head of the channel is nearer to the host than `distance` by one.
     fn leads_nearer(&self, channel: Channel, host: Node, distance: u8) -> bool
         ensures { Decides result ((channel.0 < channel_count self.now.rack.now) × (told self.now.rack.now self.now.distances.now (head self.now.rack.now channel.0) host.0 + 1 ≡ distance)) }
     {
-        match self.rack.ends(channel) {
-            Some(ends) => {
-                let ahead = self.distance(ends.head.node, host);
-                ahead < distance && distance - ahead == 1
-            }
-            None => false,
-        }
+        // no `is_some_and` in another: its goal stayed open
+        let Some(ends) = self.rack.ends(channel) else {
+            return false;
+        };
+        self.distance(ends.head.node, host)
+            .is_some_and(|ahead| ahead + 1 == distance)
     }
 
     // The lowest-numbered channel out of the switch whose head is nearer than `distance` by one.
@@ -46,14 +46,11 @@ impl Downhill<'_> {
         requires { distance ≡ told self.now.rack.now self.now.distances.now switch.0 host.0 }
         ensures { numbers result ≡ least (one_nearer self.now.rack.now self.now.distances.now switch.0 host.0) 0 (channel_count self.now.rack.now) }
     {
-        let mut from = Channel(0);
-        while let Some(channel) = self.rack.next_leaving(switch, from) {
-            if self.leads_nearer(channel, host, distance) {
-                return Some(channel);
-            }
-            from = Channel(channel.0 + 1);
-        }
-        None
+        self.rack
+            .leaving(switch)
+            .iter()
+            .copied()
+            .find(|channel| self.leads_nearer(*channel, host, distance))
     }
 }
 
@@ -61,16 +58,8 @@ impl ForwardingSource for Downhill<'_> {
     ghost route = { λ s c v. downhill_route s.rack.now s.distances.now c v };
 
     fn next_channel(&self, arriving: Channel, destination: Node) -> Option<Channel> {
-        let Some(switch) = self.rack.switch_entered(arriving) else {
-            return None;
-        };
-        if !self.rack.is_host(destination) {
-            return None;
-        }
-        let distance = self.distance(switch, destination);
-        if distance == NO_WAY {
-            return None;
-        }
+        let switch = switch_towards(self.rack, arriving, destination)?;
+        let distance = self.distance(switch, destination)?;
         self.nearer(switch, destination, distance)
     }
 }

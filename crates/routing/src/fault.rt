@@ -1,8 +1,10 @@
 // Why a path or a distance table is refused.
 ghost use Rattle.std.specs.Prelude.{◌≡◌, Some};
 ghost use Rattle.routing.specs.Faults.{walk_refusal, distance_refusal};
+ghost use Rattle.routing.specs.declared.fault.WalkFault.TheVariants.{Memory};
 
 use crate::pair::Pair;
+use std::alloc::AllocFailed;
 
 // What is wrong with the path of a pair, and at which hop; the channel out of the sender is hop 0.
 #[derive(Clone, Copy, PartialEq, Eq, Debug)]
@@ -35,12 +37,12 @@ impl WalkFault {
         ensures { result ≡ (walk_refusal self).number }
     {
         match self {
-            WalkFault::NoPair { pair: _ } => Some(30),
-            WalkFault::Endless { pair: _, hop: _ } => Some(23),
-            WalkFault::NoChannel { pair: _, hop: _ } => Some(20),
-            WalkFault::Elsewhere { pair: _, hop: _ } => Some(21),
-            WalkFault::Lane { pair: _, hop: _ } => Some(24),
-            WalkFault::OtherHost { pair: _, hop: _ } => Some(22),
+            WalkFault::NoPair { .. } => Some(30),
+            WalkFault::Endless { .. } => Some(23),
+            WalkFault::NoChannel { .. } => Some(20),
+            WalkFault::Elsewhere { .. } => Some(21),
+            WalkFault::Lane { .. } => Some(24),
+            WalkFault::OtherHost { .. } => Some(22),
             WalkFault::Memory => None,
         }
     }
@@ -50,29 +52,36 @@ impl WalkFault {
         ensures { result ≡ (walk_refusal self).pair }
     {
         match self {
-            WalkFault::NoPair { pair } => Some(pair),
-            WalkFault::Endless { pair, hop: _ } => Some(pair),
-            WalkFault::NoChannel { pair, hop: _ } => Some(pair),
-            WalkFault::Elsewhere { pair, hop: _ } => Some(pair),
-            WalkFault::Lane { pair, hop: _ } => Some(pair),
-            WalkFault::OtherHost { pair, hop: _ } => Some(pair),
+            WalkFault::NoPair { pair }
+            | WalkFault::Endless { pair, .. }
+            | WalkFault::NoChannel { pair, .. }
+            | WalkFault::Elsewhere { pair, .. }
+            | WalkFault::Lane { pair, .. }
+            | WalkFault::OtherHost { pair, .. } => Some(pair),
             WalkFault::Memory => None,
         }
     }
 
-    // The hop at fault; 0 where the refusal is about none.
+    // The hop at fault; 0 where the refusal is about none, as in the line that tells it.
     pub fn hop(self) -> u16
         ensures { result ≡ (walk_refusal self).hop }
     {
         match self {
-            WalkFault::NoPair { pair: _ } => 0,
-            WalkFault::Endless { pair: _, hop } => hop,
-            WalkFault::NoChannel { pair: _, hop } => hop,
-            WalkFault::Elsewhere { pair: _, hop } => hop,
-            WalkFault::Lane { pair: _, hop } => hop,
-            WalkFault::OtherHost { pair: _, hop } => hop,
-            WalkFault::Memory => 0,
+            WalkFault::Endless { hop, .. }
+            | WalkFault::NoChannel { hop, .. }
+            | WalkFault::Elsewhere { hop, .. }
+            | WalkFault::Lane { hop, .. }
+            | WalkFault::OtherHost { hop, .. } => hop,
+            WalkFault::NoPair { .. } | WalkFault::Memory => 0,
         }
+    }
+}
+
+impl<T: Drop> From<AllocFailed<T>> for WalkFault {
+    ghost from_gives = { λ _ f. f ≡ Memory };
+
+    fn from(_: AllocFailed<T>) -> WalkFault {
+        WalkFault::Memory
     }
 }
 

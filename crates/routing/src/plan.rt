@@ -17,16 +17,10 @@ pub struct Plan<'a, S, M> {
     pub lanes: u8,
 }
 
-// The byte at a place of a table, 0 beyond it.
-fn byte_at(table: &[u8], place: usize) -> u8
-    ensures { result ≡ slice_index table.now place }
-{
-    if place < table.len() { table[place] } else { 0 }
-}
-
 // The level that a path table has for a pair, 0 beyond the table; none if its byte is above 15.
 pub fn level_of(rack: &Rack, levels: &[u8], pair: Pair) -> Option<Level>
     ensures { MatchOption result (15 < slice_index levels.now (node_count rack.now * pair.sender.0 + pair.receiver.0)) (λ s. s.number ≡ slice_index levels.now (node_count rack.now * pair.sender.0 + pair.receiver.0)) }
 {
-    Level::new(byte_at(levels, pair.place(rack)))
+    let byte = levels.get(pair.place(rack)).copied().unwrap_or(0);
+    Level::new(byte)
 }

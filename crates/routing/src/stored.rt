@@ -1,7 +1,7 @@
 // The forwarding source that reads a forwarding table.
 ghost use Rattle.routing.specs.Sources.{stored_route};
 
-use crate::source::ForwardingSource;
+use crate::source::{ForwardingSource, switch_towards};
 use rack::numbers::{Channel, Node};
 use rack::rack::Rack;
 
@@ -16,19 +16,9 @@ impl ForwardingSource for Stored<'_> {
     ghost route = { λ s c v. stored_route s.rack.now s.forwarding.now c v };
 
     fn next_channel(&self, arriving: Channel, destination: Node) -> Option<Channel> {
-        let Some(switch) = self.rack.switch_entered(arriving) else {
-            return None;
-        };
-        if !self.rack.is_host(destination) {
-            return None;
-        }
+        let switch = switch_towards(self.rack, arriving, destination)?;
         let place = self.rack.node_count() * usize::from(switch.0) + usize::from(destination.0);
-        if place >= self.forwarding.len() {
-            return None;
-        }
-        match self.forwarding[place] {
-            0 => None,
-            more => Some(Channel(more - 1)),
-        }
+        let entry = *self.forwarding.get(place)?;
+        entry.checked_sub(1).map(Channel)
     }
 }

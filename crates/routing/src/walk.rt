@@ -1,7 +1,8 @@
 // The path of a pair, hop by hop.
 ghost use Rattle.std.specs.Prelude.{◌≡◌, ◌<◌, ◌≤◌, [], ◌∷◌, ◌++◌, vec_len, vec_capacity, MatchResult, ◌≢◌};
 ghost use Rattle.rack.specs.Racks.{Leaving, channel_count, head};
-ghost use Rattle.routing.specs.Paths.{routing, PairOf};
+ghost use Rattle.routing.specs.Paths.{PairOf};
+ghost use Rattle.routing.specs.Plans.{routing_of};
 ghost use Rattle.routing.specs.Walks.{Advances, Walked, WalkStops};
 
 use crate::fault::WalkFault;
@@ -27,11 +28,12 @@ pub fn advance<S: ForwardingSource, M: LaneMap>(
     arriving: Channel,
     hop: u16,
 ) -> Result<Step, WalkFault>
-    ensures { Advances (routing plan.now.rack.now (S.ForwardingSource.route plan.now.source.now) (M.LaneMap.lanes plan.now.map.now)) plan.now.lanes pair level.number arriving.0 hop result }
+    ensures { Advances (routing_of S.route M.lanes plan.now) plan.now.lanes pair level.number arriving.0 hop result }
 {
-    let Some(channel) = plan.source.next_channel(arriving, pair.receiver) else {
-        return Err(WalkFault::NoChannel { pair, hop });
-    };
+    let channel = plan
+        .source
+        .next_channel(arriving, pair.receiver)
+        .ok_or(WalkFault::NoChannel { pair, hop })?;
     if turn_port(plan.rack, arriving, channel).is_none() {
         return Err(WalkFault::Elsewhere { pair, hop });
     }
@@ -46,15 +48,12 @@ pub fn advance<S: ForwardingSource, M: LaneMap>(
 fn depart<S, M>(plan: &Plan<'_, S, M>, pair: Pair) -> Result<Step, WalkFault>
     ensures { MatchResult result (λ h. PairOf plan.now.rack.now pair.sender.0 pair.receiver.0 × Leaving plan.now.rack.now pair.sender.0 h.channel.0 × (h.lane.number ≡ 0)) (λ f. (f ≡ WalkFault.NoPair pair) × (PairOf plan.now.rack.now pair.sender.0 pair.receiver.0 → ⊥)) }
 {
-    if pair.sender.0 == pair.receiver.0 || !plan.rack.is_host(pair.receiver) {
-        return Err(WalkFault::NoPair { pair });
-    }
     match plan.rack.channel_out(pair.sender) {
-        Some(channel) => Ok(Step {
+        Some(channel) if pair.joins_hosts(plan.rack) => Ok(Step {
             channel,
             lane: Lane::zero(),
         }),
-        None => Err(WalkFault::NoPair { pair }),
+        _ => Err(WalkFault::NoPair { pair }),
     }
 }
 
@@ -69,17 +68,6 @@ fn arrive<S, M>(plan: &Plan<'_, S, M>, pair: Pair, last: Channel, hop: u16) -> R
     }
 }
 
-// Puts one step more at the end of the list.
-fn note(path: &mut Vec<Step>, step: Step) -> Result<(), WalkFault>
-    ensures answer { MatchResult result (λ _. path.new.items ≡ path.old.items ++ step ∷ []) (λ f. (f ≡ WalkFault.Memory) × (vec_capacity path.old ≤ vec_len path.old)) }
-    ensures room { vec_capacity path.old ≤ vec_capacity path.new }
-{
-    match path.push(step) {
-        Ok(()) => Ok(()),
-        Err(_) => Err(WalkFault::Memory),
-    }
-}
-
 // The path of a pair at a level, into `path`; or the first thing that is wrong with it.
 pub fn walk<S: ForwardingSource, M: LaneMap>(
     plan: &Plan<'_, S, M>,
@@ -87,19 +75,20 @@ pub fn walk<S: ForwardingSource, M: LaneMap>(
     level: Level,
     path: &mut Vec<Step>,
 ) -> Result<(), WalkFault>
-    ensures answer { MatchResult result (λ _. Walked (routing plan.now.rack.now (S.ForwardingSource.route plan.now.source.now) (M.LaneMap.lanes plan.now.map.now)) plan.now.lanes pair level.number path.new.items) (WalkStops (routing plan.now.rack.now (S.ForwardingSource.route plan.now.source.now) (M.LaneMap.lanes plan.now.map.now)) plan.now.lanes pair level.number (vec_capacity path.old)) }
+    ensures answer { MatchResult result (λ _. Walked (routing_of S.route M.lanes plan.now) plan.now.lanes pair level.number path.new.items) (WalkStops (routing_of S.route M.lanes plan.now) plan.now.lanes pair level.number (vec_capacity path.old)) }
     ensures room { vec_capacity path.old ≤ vec_capacity path.new }
 {
     path.clear();
     let count = plan.rack.channel_count() as u16;
     let mut at = depart(plan, pair)?;
-    note(path, at)?;
+    path.push(at)?;
+    // counted by hand, since the source is not asked for hop `count`
     for hop in 1..count {
-        let Some(_) = plan.rack.switch_entered(at.channel) else {
+        if plan.rack.switch_entered(at.channel).is_none() {
             return arrive(plan, pair, at.channel, hop - 1);
-        };
+        }
         at = advance(plan, pair, level, at.channel, hop)?;
-        note(path, at)?;
+        path.push(at)?;
     }
     match plan.rack.switch_entered(at.channel) {
         Some(_) => Err(WalkFault::Endless { pair, hop: count }),

@@ -1,12 +1,13 @@
 // What is wrong with a path: each refusal, with its pair and its hop.
 ghost use Rattle.std.specs.Prelude.{Some as There};
 
-use crate::racks::{clockwise, pair, parted, triangle};
+use crate::racks::{clockwise, parted, triangle};
 use crate::walks::check_stops;
 use rack::numbers::{Channel, Node};
 use routing::distances::fill_distances;
 use routing::downhill::Downhill;
 use routing::one_lane::OneLane;
+use routing::pair::Pair;
 use routing::source::ForwardingSource;
 use routing::stored::Stored;
 use routing::two_hop::TwoHop;
@@ -34,11 +35,31 @@ fn elsewhere(rt: HostRuntime) -> Result<(), Fail> {
     let rack = triangle(heap)?;
     for channel in [10u16, 0, 12, 65535] {
         let source = Always { channel };
-        check_stops(&rt, heap, &rack, &source, &OneLane, 8, pair(0, 2), 21, 1)?;
+        check_stops(
+            &rt,
+            heap,
+            &rack,
+            &source,
+            &OneLane,
+            8,
+            Pair::of(0, 2),
+            21,
+            1,
+        )?;
     }
     // the first turn is one, and the second is not
     let source = Always { channel: 6 };
-    check_stops(&rt, heap, &rack, &source, &OneLane, 8, pair(0, 2), 21, 2)
+    check_stops(
+        &rt,
+        heap,
+        &rack,
+        &source,
+        &OneLane,
+        8,
+        Pair::of(0, 2),
+        21,
+        2,
+    )
 }
 
 // The table has another entry at the place.
@@ -66,7 +87,7 @@ fn check_changed(
         &source,
         &OneLane,
         1,
-        pair(0, 2),
+        Pair::of(0, 2),
         number,
         hop,
     )
@@ -106,7 +127,7 @@ fn no_pair(rt: HostRuntime) -> Result<(), Fail> {
             &source,
             &OneLane,
             1,
-            pair(sender, receiver),
+            Pair::of(sender, receiver),
             30,
             0,
         )?;
@@ -125,7 +146,7 @@ fn lane(rt: HostRuntime) -> Result<(), Fail> {
         forwarding: &forwarding,
     };
     let map = TwoHop { rack: &rack };
-    check_stops(&rt, heap, &rack, &source, &map, 1, pair(0, 1), 24, 2)
+    check_stops(&rt, heap, &rack, &source, &map, 1, Pair::of(0, 1), 24, 2)
 }
 
 // Where there is no way, the downhill source names no channel.
@@ -139,5 +160,15 @@ fn no_way(rt: HostRuntime) -> Result<(), Fail> {
         rack: &rack,
         distances: &table,
     };
-    check_stops(&rt, heap, &rack, &source, &OneLane, 1, pair(0, 1), 20, 1)
+    check_stops(
+        &rt,
+        heap,
+        &rack,
+        &source,
+        &OneLane,
+        1,
+        Pair::of(0, 1),
+        20,
+        1,
+    )
 }

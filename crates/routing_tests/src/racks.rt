@@ -1,40 +1,18 @@
 // The racks of the tests. Ports are counted from 1 at each node, in the order of the cables; cable k has the channels 2k and 2k + 1.
-use rack::cable::{Cable, End};
+use rack::cable::Cable;
 use rack::fault::RackFault;
-use rack::numbers::{Node, Port};
 use rack::rack::Rack;
-use routing::pair::Pair;
 use std::alloc::Global;
-
-pub fn cable(v: u16, p: u8, w: u16, q: u8) -> Cable {
-    Cable {
-        first: End {
-            node: Node(v),
-            port: Port(p),
-        },
-        second: End {
-            node: Node(w),
-            port: Port(q),
-        },
-    }
-}
-
-pub fn pair(sender: u16, receiver: u16) -> Pair {
-    Pair {
-        sender: Node(sender),
-        receiver: Node(receiver),
-    }
-}
 
 // Hosts 0 to 2 on the switches 3 to 5, each of which is joined to both others.
 pub fn triangle(heap: Global) -> Result<Rack, RackFault> {
     let cables = [
-        cable(0, 1, 3, 1),
-        cable(1, 1, 4, 1),
-        cable(2, 1, 5, 1),
-        cable(3, 2, 4, 2),
-        cable(4, 3, 5, 2),
-        cable(5, 3, 3, 3),
+        Cable::between(0, 1, 3, 1),
+        Cable::between(1, 1, 4, 1),
+        Cable::between(2, 1, 5, 1),
+        Cable::between(3, 2, 4, 2),
+        Cable::between(4, 3, 5, 2),
+        Cable::between(5, 3, 3, 3),
     ];
     Rack::from_tables(heap, &[1, 1, 1, 2, 2, 2], &cables)
 }
@@ -51,34 +29,42 @@ pub fn clockwise() -> [u16; 36] {
 // Hosts 0 to 3 on the switches 4 to 7, which stand in a row.
 pub fn line(heap: Global) -> Result<Rack, RackFault> {
     let cables = [
-        cable(0, 1, 4, 1),
-        cable(1, 1, 5, 1),
-        cable(2, 1, 6, 1),
-        cable(3, 1, 7, 1),
-        cable(4, 2, 5, 2),
-        cable(5, 3, 6, 2),
-        cable(6, 3, 7, 2),
+        Cable::between(0, 1, 4, 1),
+        Cable::between(1, 1, 5, 1),
+        Cable::between(2, 1, 6, 1),
+        Cable::between(3, 1, 7, 1),
+        Cable::between(4, 2, 5, 2),
+        Cable::between(5, 3, 6, 2),
+        Cable::between(6, 3, 7, 2),
     ];
     Rack::from_tables(heap, &[1, 1, 1, 1, 2, 2, 2, 2], &cables)
 }
 
 // Hosts 0 and 1 on the switches 2 and 3, which nothing joins.
 pub fn parted(heap: Global) -> Result<Rack, RackFault> {
-    Rack::from_tables(heap, &[1, 1, 2, 2], &[cable(0, 1, 2, 1), cable(1, 1, 3, 1)])
+    Rack::from_tables(
+        heap,
+        &[1, 1, 2, 2],
+        &[Cable::between(0, 1, 2, 1), Cable::between(1, 1, 3, 1)],
+    )
 }
 
 // Hosts 0 and 1 on the switches 2 and 3, which two cables join.
 pub fn twin(heap: Global) -> Result<Rack, RackFault> {
     let cables = [
-        cable(0, 1, 2, 1),
-        cable(1, 1, 3, 1),
-        cable(2, 2, 3, 2),
-        cable(2, 3, 3, 3),
+        Cable::between(0, 1, 2, 1),
+        Cable::between(1, 1, 3, 1),
+        Cable::between(2, 2, 3, 2),
+        Cable::between(2, 3, 3, 3),
     ];
     Rack::from_tables(heap, &[1, 1, 2, 2], &cables)
 }
 
 // Hosts 0 and 1 on switch 2, host 0 at its last port: the turn from the last channel, 3, to that port is the last of all.
 pub fn corner(heap: Global) -> Result<Rack, RackFault> {
-    Rack::from_tables(heap, &[1, 1, 2], &[cable(0, 1, 2, 36), cable(2, 1, 1, 1)])
+    Rack::from_tables(
+        heap,
+        &[1, 1, 2],
+        &[Cable::between(0, 1, 2, 36), Cable::between(2, 1, 1, 1)],
+    )
 }

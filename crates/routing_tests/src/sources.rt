@@ -1,9 +1,10 @@
 // Paths by a stored source and by a downhill one.
-use crate::racks::{clockwise, line, pair, triangle, twin};
+use crate::racks::{clockwise, line, triangle, twin};
 use crate::walks::check_walks;
 use routing::distances::fill_distances;
 use routing::downhill::Downhill;
 use routing::one_lane::OneLane;
+use routing::pair::Pair;
 use routing::stored::Stored;
 use routing::two_hop::TwoHop;
 use std::test::Fail;
@@ -24,7 +25,7 @@ fn stored_clockwise(rt: HostRuntime) -> Result<(), Fail> {
         &source,
         &OneLane,
         1,
-        pair(0, 2),
+        Pair::of(0, 2),
         &[(0, 0), (6, 0), (8, 0), (5, 0)],
     )?;
     check_walks(
@@ -34,7 +35,7 @@ fn stored_clockwise(rt: HostRuntime) -> Result<(), Fail> {
         &source,
         &OneLane,
         1,
-        pair(1, 0),
+        Pair::of(1, 0),
         &[(2, 0), (8, 0), (10, 0), (1, 0)],
     )
 }
@@ -57,7 +58,7 @@ fn two_hop_clockwise(rt: HostRuntime) -> Result<(), Fail> {
         &source,
         &map,
         2,
-        pair(0, 2),
+        Pair::of(0, 2),
         &[(0, 0), (6, 0), (8, 1), (5, 1)],
     )
 }
@@ -79,7 +80,7 @@ fn downhill_triangle(rt: HostRuntime) -> Result<(), Fail> {
         &source,
         &OneLane,
         1,
-        pair(0, 2),
+        Pair::of(0, 2),
         &[(0, 0), (11, 0), (5, 0)],
     )
 }
@@ -101,7 +102,7 @@ fn downhill_line(rt: HostRuntime) -> Result<(), Fail> {
         &source,
         &OneLane,
         1,
-        pair(0, 3),
+        Pair::of(0, 3),
         &[(0, 0), (8, 0), (10, 0), (12, 0), (7, 0)],
     )?;
     check_walks(
@@ -111,7 +112,7 @@ fn downhill_line(rt: HostRuntime) -> Result<(), Fail> {
         &source,
         &OneLane,
         1,
-        pair(3, 0),
+        Pair::of(3, 0),
         &[(6, 0), (13, 0), (11, 0), (9, 0), (1, 0)],
     )
 }
@@ -134,7 +135,7 @@ fn downhill_lowest(rt: HostRuntime) -> Result<(), Fail> {
         &source,
         &OneLane,
         1,
-        pair(0, 1),
+        Pair::of(0, 1),
         &[(0, 0), (4, 0), (3, 0)],
     )?;
     check_walks(
@@ -144,7 +145,7 @@ fn downhill_lowest(rt: HostRuntime) -> Result<(), Fail> {
         &source,
         &OneLane,
         1,
-        pair(1, 0),
+        Pair::of(1, 0),
         &[(2, 0), (5, 0), (1, 0)],
     )
 }
