@@ -1,5 +1,5 @@
 -- Whether a path fits at a level, and what it claims there, middle turn by middle turn. Assumes nothing.
-use Rattle.std.proofs.Common.{◌≡◌, ℕ, ◌+◌, ◌-◌, ◌<◌, ◌≤◌, true, ◌⊎◌, List, length, get_or, set, sym, refl, ap, ◌∙◌, subst, ⊎_elim, arith, length-set, get_or-set_other, get_or-set_same}
+use Rattle.std.proofs.Common.{◌≡◌, ℕ, ◌+◌, ◌-◌, ◌<◌, ◌≤◌, true, ◌⊎◌, List, length, get_or, set, sym, refl, ◌∙◌, subst, ⊎_elim, arith, length-set, get_or-set_other, get_or-set_same}
 use lib.ListN.{length-map}
 use Rattle.std.proofs.lemmas.List.{get_or-map}
 use Rattle.std.proofs.lemmas.Bool.{cases_eq}
@@ -83,31 +83,25 @@ module _ (r : Rack) (path : List ℕ) (s : ℕ) where
         kept = λ k h. f.kept k (λ j a b. h j (f.within j a b));
       }
 
-three : (Q : ℕ → ℕ → ℕ → Type 0) (a b n x y m : ℕ) → a ≡ x → b ≡ y → n ≡ m → Q a b n → Q x y m
-three Q a b n x y m p q e h = subst (λ k. Q x y k) e (subst (λ k. Q x k n) q (subst (λ k. Q k b n) p h))
-
 -- one middle turn, by its two steps
-module _ (r : Rack) (steps : List Step) (j : ℕ) (x y : Step) (first : 1 ≤ j) (last : j < length steps - 2) (is : x ≡ get_or steps j x) (next : y ≡ get_or steps (j + 1) y) where
+module _ (r : Rack) (steps : List Step) (j : ℕ) (x y : Step) (first : 1 ≤ j) (last : j < length steps - 2) where
   pub middle_at : Middle (channels_of steps) j
   middle_at = (first, omega (arith, as_long steps))
 
-  from_channel : get_or (channels_of steps) j 0 ≡ x.channel.0
-  from_channel = at_step steps j x (omega arith) ∙ ap channel_of (sym is)
+  from_channel : get_or (channels_of steps) j 0 ≡ (get_or steps j x).channel.0
+  from_channel = at_step steps j x (omega arith)
 
-  to_channel : get_or (channels_of steps) (j + 1) 0 ≡ y.channel.0
-  to_channel = at_step steps (j + 1) y (omega arith) ∙ ap channel_of (sym next)
+  to_channel : get_or (channels_of steps) (j + 1) 0 ≡ (get_or steps (j + 1) y).channel.0
+  to_channel = at_step steps (j + 1) y (omega arith)
 
-  pub turn_at : Passes r (channels_of steps) → turns r x.channel.0 y.channel.0 ≡ true
-  turn_at pass = three (λ a b _. turns r a b ≡ true) _ _ 0 _ _ 0 from_channel to_channel refl (pass.turning j middle_at)
+  pub turn_at : Passes r (channels_of steps) → turns r (get_or steps j x).channel.0 (get_or steps (j + 1) y).channel.0 ≡ true
+  turn_at pass = rw (sym from_channel, sym to_channel) (pass.turning j middle_at)
 
-  pub room_at : (lanes : List ℕ) (s n : ℕ) → n ≡ j → (stored_lane r lanes x.channel.0 y.channel.0 s ≡ 0) ⊎ (stored_lane r lanes x.channel.0 y.channel.0 s ≡ n) → Room r lanes (channels_of steps) s j
-  room_at lanes s n e h = three (λ a b k. (stored_lane r lanes a b s ≡ 0) ⊎ (stored_lane r lanes a b s ≡ k)) _ _ n _ _ j (sym from_channel) (sym to_channel) e h
+  pub own_at : (lanes : List ℕ) (s n : ℕ) → n ≡ stored_lane r lanes (get_or steps j x).channel.0 (get_or steps (j + 1) y).channel.0 s → n ≡ entry_of r lanes (channels_of steps) s j
+  own_at lanes s n e = rw (sym from_channel, sym to_channel) at e
 
-  pub room_there : (lanes : List ℕ) (s n : ℕ) → n ≡ j → Room r lanes (channels_of steps) s j → (stored_lane r lanes x.channel.0 y.channel.0 s ≡ 0) ⊎ (stored_lane r lanes x.channel.0 y.channel.0 s ≡ n)
-  room_there lanes s n e h = three (λ a b k. (stored_lane r lanes a b s ≡ 0) ⊎ (stored_lane r lanes a b s ≡ k)) _ _ j _ _ n from_channel to_channel (sym e) h
-
-  pub claim_at : (lanes now : List ℕ) (s n : ℕ) → n ≡ j → now ≡ set lanes (row_start x.channel.0 (tail_port r y.channel.0) + s) n → now ≡ set lanes (entry_place r (channels_of steps) s j) j
-  claim_at lanes now s n e h = three (λ a b k. now ≡ set lanes (row_start a (tail_port r b) + s) k) _ _ n _ _ j (sym from_channel) (sym to_channel) e h
+  pub claim_at : (lanes now : List ℕ) (s n : ℕ) → n ≡ j → now ≡ set lanes (row_start (get_or steps j x).channel.0 (tail_port r (get_or steps (j + 1) y).channel.0) + s) n → now ≡ set lanes (entry_place r (channels_of steps) s j) j
+  claim_at lanes now s n e h = subst (λ m. now ≡ set lanes (entry_place r (channels_of steps) s j) m) e (rw (sym from_channel, sym to_channel) at h)
 
 -- none of the levels below n, nor level n
 pub none_more : (P : ℕ → Type 0) (n m : ℕ) → m ≡ n → ((t : ℕ) → t < n → P t → ⊥) → (P m → ⊥) → (t : ℕ) → t < n + 1 → P t → ⊥

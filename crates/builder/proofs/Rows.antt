@@ -1,5 +1,5 @@
 -- A row taken out of the lane table, changed at one level and put back. Assumes nothing.
-use Rattle.std.proofs.Common.{◌≡◌, ℕ, ◌+◌, ◌-◌, ◌<◌, ◌≤◌, true, eqb, ◌⊎◌, List, ◌++◌, length, take, drop, set, Decides, sym, ◌∙◌, inl, inr, ⊎_elim, arith, length-drop, length-take, eq-eqb, eqb-true}
+use Rattle.std.proofs.Common.{◌≡◌, ℕ, ◌+◌, ◌-◌, ◌<◌, ◌≤◌, true, List, ◌++◌, length, take, drop, set, arith, length-drop, length-take}
 use borrow.Rule.Slice.PartMut.{put_mid}
 use Rattle.std.proofs.lemmas.List.{set-append_left, take-append-drop, take-set-le, drop-set-add, take_rest}
 use Rattle.rack.specs.declared.rack.Rack.{Rack}
@@ -37,14 +37,6 @@ row_inside r table c d turn long =
     let p = tail_port_within r d (turns_below r c d turn) in
     let b = (entered r c (turns_enters r c d turn)).0 in
     omega (arith, p.0, p.1, b)
-
--- the test for room: the entry x, which the table says to be y, is 0 or the lane
-pub room_empty : (x y n : ℕ) → x ≡ y → x ≡ 0 → Decides (eqb x 0) ((y ≡ 0) ⊎ (y ≡ n))
-room_empty x y n e z = (λ _. inl (sym e ∙ z), λ _. eq-eqb x 0 z)
-
-pub room_own : (x y n m : ℕ) → x ≡ y → (x ≡ 0 → ⊥) → m ≡ n → Decides (eqb x m) ((y ≡ 0) ⊎ (y ≡ n))
-room_own x y n m e ne same =
-    (λ t. inr (sym e ∙ eqb-true x m t ∙ same), λ h. ⊎_elim (λ (z : y ≡ 0). absurd (ne (e ∙ z))) (λ (q : y ≡ n). eq-eqb x m (e ∙ q ∙ sym same)) h)
 
 pub rows_apart : RowsApart
 rows_apart b c p q i j one many one' many' low low' e = (omega arith, omega arith, omega arith)

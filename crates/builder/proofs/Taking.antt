@@ -1,9 +1,9 @@
 -- The pairs in their order, one more at a time. Assumes nothing.
-use Rattle.std.proofs.Common.{◌≡◌, ℕ, zero, suc, ◌+◌, ◌*◌, ◌<◌, ◌⊎◌, length, Option, sym, refl, ap, ◌∙◌, subst, inl, inr, ⊎_elim, arith}
+use Rattle.std.proofs.Common.{◌≡◌, ℕ, zero, suc, ◌+◌, ◌*◌, ◌<◌, ◌⊎◌, length, Option, sym, ap, ◌∙◌, subst, inl, inr, ⊎_elim, arith}
 use lib.ListN.{length-replicate}
 use Rattle.std.proofs.lemmas.Bool.{cases_order}
 use Rattle.rack.specs.declared.rack.Rack.{Rack}
-use Rattle.rack.specs.Racks.{node_count, channel_count, Host}
+use Rattle.rack.specs.Racks.{node_count, channel_count}
 use Rattle.rack.proofs.Facts.{host_below}
 use Rattle.routing.specs.declared.pair.Pair.{Pair}
 use Rattle.routing.specs.Paths.{PairOf}
@@ -28,11 +28,6 @@ module _ (r : Rack) (route : ℕ → ℕ → Option ℕ) (count : ℕ) where
 
   pub senders_more : (u : ℕ) (was mid now : Tables) → Senders r route count u was mid → Receivers r route count u (node_count r) mid now → Senders r route count (u + 1) was now
   senders_more u was mid now a b = let e : suc u ≡ u + 1 = omega arith in subst (λ n. Senders r route count n was now) e (mid, a, b)
-
-  -- what is no host sends nothing
-  pub receivers_none : (u n : ℕ) (was : Tables) → (Host r u → ⊥) → Receivers r route count u n was was
-  receivers_none u zero was no_host = refl
-  receivers_none u (suc n) was no_host = (was, receivers_none u n was no_host, inr (λ p. no_host p.0, refl))
 
   -- what was taken on the way
   pub taken_on_way : (u n v : ℕ) (was now : Tables) → v < n → Receivers r route count u n was now → (mid : Tables) × ((next : Tables) × (Receivers r route count u v was mid × Taken r route count u v mid next))

@@ -34,8 +34,7 @@ impl From<WalkFault> for BuildFault {
 impl From<AllocError> for BuildFault {
     ghost from_gives = { λ _ r. r ≡ Memory };
 
-    fn from(error: AllocError) -> BuildFault {
-        let AllocError = error;
+    fn from(_: AllocError) -> BuildFault {
         BuildFault::Memory
     }
 }
@@ -49,8 +48,8 @@ impl BuildFault {
             BuildFault::Lanes => Some(10),
             BuildFault::Tables => Some(9),
             BuildFault::Walk(_) => None,
-            BuildFault::Lane { pair: _ } => Some(11),
-            BuildFault::Level { pair: _ } => Some(12),
+            BuildFault::Lane { .. } => Some(11),
+            BuildFault::Level { .. } => Some(12),
             BuildFault::Memory => None,
         }
     }
@@ -60,13 +59,12 @@ impl BuildFault {
         ensures { result ≡ (build_refusal self).about }
     {
         match self {
-            BuildFault::Lane { pair } => Some(pair),
-            BuildFault::Level { pair } => Some(pair),
+            BuildFault::Lane { pair } | BuildFault::Level { pair } => Some(pair),
             _ => None,
         }
     }
 
-    // The fault of a walk, as it was handed up.
+    // The fault of a walk, as it was handed up. Three layers have this question, and no function asks it of more than one: a trait would say it a fourth time.
     pub fn walk(self) -> Option<WalkFault>
         ensures { result ≡ (build_refusal self).walk }
     {

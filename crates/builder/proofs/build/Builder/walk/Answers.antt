@@ -3,12 +3,12 @@ use Rattle.std.proofs.lemmas.Result.{err_from_is_err_and}
 use Rattle.routing.specs.Walks.{Walked, WalkStops}
 use Rattle.builder.specs.Method.{alone}
 use Rattle.builder.proofs.Pathed.{with_room, path_of}
-use Rattle.builder.proofs.build.path_of.Goals as goal
+use Rattle.builder.proofs.build.Builder.walk.Goals as goal
 
 pub returns-in_err-walk : goal.returns-in_err-walk
 returns-in_err-walk g c =
-    let r = c.args.rack.now in
-    let G = alone r (g.S.ForwardingSource.route c.args.source.now) in
+    let r = c.args.self.now.rack.now in
+    let G = alone r (g.S.ForwardingSource.route c.args.self.now.source.now) in
     let p = c.args.pair in
     let room = vec_capacity c.args.path.now in
     let w = c.in_err-walk.field-0.0 in
@@ -18,8 +18,8 @@ returns-in_err-walk g c =
 
 pub returns : goal.returns
 returns g c =
-    let r = c.args.rack.now in
-    let route = g.S.ForwardingSource.route c.args.source.now in
+    let r = c.args.self.now.rack.now in
+    let route = g.S.ForwardingSource.route c.args.self.now.source.now in
     let p = c.args.pair in
     let steps = vec_items c.walk.new.path in
     record {
