@@ -1,7 +1,7 @@
 -- Marks that are added one by one. Assumes nothing.
-use Rattle.std.proofs.Common.{◌≡◌, ℕ, ◌^◌, ◌<◌, true, ◌⊎◌, List, length, get_or, set, sym, ap, ◌∙◌, subst, inl, inr, ⊎_elim}
+use Rattle.std.proofs.Common.{◌≡◌, ℕ, ◌^◌, ◌<◌, true, ◌⊎◌, List, ◌++◌, length, get_or, take, drop, set, sym, ap, ◌∙◌, subst, inl, inr, ⊎_elim}
 use lib.Bits.{bit_or}
-use Rattle.std.proofs.lemmas.List.{get_or-set_same, get_or-set_other}
+use Rattle.std.proofs.lemmas.List.{take_at, get_or-set_same, get_or-set_other}
 use Rattle.std.proofs.lemmas.Bool.{cases_eq}
 use Rattle.checking.specs.Words.{bit}
 use Rattle.checking.specs.Marks.{Adds}
@@ -42,3 +42,7 @@ pub adds_mark : (t : List ℕ) (at place b mask word : ℕ) → at ≡ place →
 adds_mark t at place b mask word e w l m =
     subst (λ (x : ℕ). Adds (λ k j. (k ≡ place) × (j ≡ b)) t (set t at (bit_or (get_or t at 0) x))) (sym m ∙ w)
     (subst (λ (q : ℕ). Adds (λ k j. (k ≡ q) × (j ≡ b)) t (set t at (bit_or (get_or t at 0) (2 ^ b)))) e (adds_one t at b l))
+
+-- the same of a whole `Vec`, whose elements were lent
+pub adds_whole : (M : ℕ → ℕ → Type 0) (s t items : List ℕ) (len : ℕ) → s ≡ items → length t ≡ len → Adds M s t → Adds M items (take len (t ++ drop (length t) items))
+adds_whole M s t items len e long adds = rw (take_at t (drop (length t) items) len long) (subst (λ (xs : List ℕ). Adds M xs t) e adds)

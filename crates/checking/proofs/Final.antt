@@ -1,5 +1,5 @@
 -- From the parts of the check to its answer. Assumes nothing.
-use Rattle.std.proofs.Common.{◌≡◌, ℕ, ◌+◌, ◌*◌, ◌/◌, ◌%◌, ◌<◌, true, ◌⊎◌, ◌↔◌, List, ◌++◌, length, get_or, drop, is_ok, Ok, Err, Result, sym, refl, ap, ◌∙◌, subst, inl, inr, arith, eqb-true}
+use Rattle.std.proofs.Common.{◌≡◌, ℕ, ◌+◌, ◌*◌, ◌/◌, ◌%◌, ◌<◌, ◌≤◌, true, ◌⊎◌, ⊎_elim, ◌↔◌, List, ◌++◌, length, get_or, drop, is_ok, Ok, Err, Result, sym, refl, ap, ◌∙◌, subst, inl, inr, arith, eqb-true}
 use Rattle.std.proofs.lemmas.List.{get_or_append_left}
 use Rattle.rack.specs.Racks.{node_count, channel_count, head, tail, tail_port}
 use Rattle.routing.specs.Turns.{turn_count, turn_place}
@@ -17,7 +17,9 @@ use Rattle.routing.specs.Walks.{WalkStops}
 use Rattle.routing.proofs.Determined.{stopped_undelivered}
 use Rattle.routing.proofs.Tests.{both_snd, turns_below, turns_enters, entered}
 use Rattle.routing.proofs.Sourced.{cond_true}
-use Rattle.ranking.specs.Graphs.{NoRing, Ranked}
+use Rattle.ranking.specs.declared.faults.RankFault.{RankFault}
+use Rattle.ranking.specs.declared.faults.RankFault.TheVariants.{Tables as ShortTables, Ring as RingFound}
+use Rattle.ranking.specs.Graphs.{NoRing, Room, Ranked, Answered}
 use Rattle.ranking.proofs.Chains.{no_ring_from_rise, ranks_rise}
 use Rattle.rack.specs.declared.rack.Rack.{Rack}
 use borrow.Author.Tests.{both_ways}
@@ -25,7 +27,8 @@ use Rattle.checking.specs.Plans.{FirstFault, level_at, Follows, AllPairs, Sound}
 use Rattle.checking.proofs.Scans.{bit_zero, followed_turns}
 use Rattle.checking.proofs.Rising.{rising_free}
 use Rattle.checking.specs.Marks.{AllSay, Collected, Settled}
-use Rattle.checking.specs.Answers.{TablesAt, tables_at, Starts, Checked, Accepted, ExactlySound, RisingAccepted}
+use Rattle.checking.specs.Faults.{rank_refusal}
+use Rattle.checking.specs.Answers.{BareChecked, TablesAt, tables_at, Starts, Checked, Accepted, ExactlySound, RisingAccepted}
 use Rattle.checking.proofs.Exactness.{exact, ranked_to, ringed_to}
 
 module _ (g : Routing) (levels : List ℕ) (lanes : ℕ) where
@@ -116,3 +119,17 @@ bare_free r table n top s t size ranked =
     let word : word_of r table (x / 8) (y / 8) ≡ get_or table (turn_place (x / 8) (tail_port r (y / 8))) 0 = cond_true _ _ _ turn in
     ranks_rise (ChannelFollowedBy r table) (x / 8) (y / 8) _ _ (ranked.ranks (x / 8) (omega (arith, sw.0))) (ranked.ranks (y / 8) (omega arith))
     (sw.0, ld, leaves, λ none. both_ways (bit (word_of r table (x / 8) (y / 8)) (8 * (x % 8) + y % 8)) (ap (λ w. bit w (8 * (x % 8) + y % 8)) (word ∙ none) ∙ bit_zero (8 * (x % 8) + y % 8)) f.2))
+
+-- what the ranking refuses, the check refuses
+pub settle_refused :
+    (r : Rack) (table s t u v : List ℕ) (f : RankFault) → Room (8 * channel_count r) s u → Answered (FollowedBy r table) (8 * channel_count r) s t u v (Err f) →
+    Settled r table s t u v (Err (rank_refusal f))
+settle_refused r table s t u v ShortTables room h = ⊎_elim (λ (l : length s < 8 * channel_count r). omega (arith, room.0)) (λ (l : length u < 8 * channel_count r). omega (arith, room.1)) h.0
+settle_refused r table s t u v (RingFound n) room h = h.1
+
+-- and so does the bare check
+pub bare_refused :
+    (r : Rack) (table s t u v : List ℕ) (f : RankFault) → turn_count (channel_count r) ≤ length table → Answered (ChannelFollowedBy r table) (channel_count r) s t u v (Err f) →
+    BareChecked r table s t u v (Err (rank_refusal f))
+bare_refused r table s t u v ShortTables long h = (λ b. ⊎_elim (λ (l : length s < channel_count r). omega (arith, b.1)) (λ (l : length u < channel_count r). omega (arith, b.2)) h.0, h.1, h.2)
+bare_refused r table s t u v (RingFound n) long h = ((long, h.0.0, h.0.1), h.1)

@@ -1,6 +1,9 @@
 -- From the list that a walk gives to the marks of a pair's path. Assumes nothing.
-use Rattle.std.proofs.Common.{◌≡◌, ℕ, suc, ◌+◌, ◌-◌, ◌<◌, ◌≤◌, true, false, List, length, get_or, Some, sym, ap, ◌∙◌, subst, inl, inr, ⊎_elim, arith}
+use Rattle.std.proofs.Common.{◌≡◌, ℕ, suc, ◌+◌, ◌-◌, ◌<◌, ◌≤◌, true, false, List, length, get_or, drop, Some, sym, ap, ◌∙◌, subst, inl, inr, ⊎_elim, arith, length-drop}
+use Rattle.std.specs.List.{zip}
+use Rattle.std.proofs.lemmas.Slice.Zip.{length-zip, get_or-zip}
 use Rattle.std.proofs.lemmas.List.{get_or_read}
+use Rattle.std.proofs.lemmas.Grind.{get_or_after_one}
 use Rattle.std.proofs.lemmas.Bool.{cases_eq, cases_lt}
 use Rattle.rack.specs.declared.rack.Rack.{Rack}
 use Rattle.rack.specs.Racks.{Leaving}
@@ -34,9 +37,26 @@ list_more r path n a b s t u l ea eb one two =
     (λ k j h. (n, omega arith, λ d. subst (λ (x : Step). Says r (hop_of x) (hop_of (get_or path (n + 1) d)) k j) (get_or_read path n a (omega arith) ea d) (subst (λ (x : Step). Says r (hop_of a) (hop_of x) k j) (get_or_read path (n + 1) b l eb d) h)))
     one two
 
+-- the pairs of a step and the next
+abbrev pub pairs : List Step → List (Step × Step)
+pairs path = zip path (drop 1 path)
+
+pub length-pairs : (path : List Step) → length (pairs path) ≡ length path - 1
+length-pairs path = omega (arith, length-zip path (drop 1 path), length-drop 1 path)
+
+-- the pair at place n
+pub pair_at :
+    (path : List Step) (n : ℕ) (p : Step × Step) → n < length (pairs path) → p ≡ get_or (pairs path) n p →
+    (n + 1 < length path) × (p.0 ≡ get_or path n p.0) × (p.1 ≡ get_or path (n + 1) p.1)
+pair_at path n p low is =
+    let within : n + 1 < length path = omega (arith, length-pairs path) in
+    let both = is ∙ get_or-zip path (drop 1 path) n p (omega arith) (omega (arith, length-drop 1 path)) in
+    let e : 1 + n ≡ n + 1 = omega arith in
+    (within, ap (λ (x : Step × Step). x.0) both, ap (λ (x : Step × Step). x.1) both ∙ get_or_after_one path n p.1 ∙ ap (λ k. get_or path k p.1) e)
+
 -- a step to stand where a list ends
 blank : Step
-blank = record { channel = record { 0 = 0 }; lane = record { number = 0; below = omega arith } }
+blank = record { channel = record { 0 = 0 }; lane = record { number = 0; within = omega arith } }
 
 module _ (g : Routing) (levels : List ℕ) (lanes : ℕ) (p : Pair) (s : ℕ) (path : List Step) (w : Walked g lanes p s path) where
   abbrev u : ℕ

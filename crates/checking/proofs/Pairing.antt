@@ -1,8 +1,8 @@
 -- Pair by pair: what is fine so far, and what is marked. Assumes nothing.
-use Rattle.std.proofs.Common.{◌≡◌, ℕ, ◌+◌, ◌<◌, ◌≤◌, true, List, ◌++◌, length, get_or, take, drop, replicate, sym, ap, ◌∙◌, subst, inl, inr, ⊎_elim, arith}
+use Rattle.std.proofs.Common.{◌≡◌, ℕ, ◌+◌, ◌<◌, ◌≤◌, true, false, not, eqb, List, length, get_or, replicate, sym, ap, ◌∙◌, subst, inl, inr, ⊎_elim, arith, eq-eqb, ne_eqb}
 use lib.ListN.{length-replicate}
 use borrow.Author.Tests.{both_ways}
-use Rattle.std.proofs.lemmas.List.{take_at, get_or-replicate, get_or_past}
+use Rattle.std.proofs.lemmas.List.{get_or-replicate, get_or_past}
 use Rattle.routing.specs.Turns.{turn_count}
 use Rattle.checking.specs.Words.{bit}
 use Rattle.checking.proofs.Scans.{bit_zero}
@@ -19,6 +19,13 @@ use Rattle.checking.specs.declared.fault.CheckFault.{CheckFault}
 use Rattle.checking.specs.Plans.{FinePair, FirstFault}
 use Rattle.checking.specs.Marks.{Adds, PairSays, SenderSays, SenderFine, SenderFault, AllSay, AllFine, Collected}
 use Rattle.checking.proofs.Adding.{adds_both, adds_none}
+
+-- numbers that a test tells apart, or does not
+pub differs : (v u : ℕ) → not (eqb v u) ≡ true → u ≡ v → ⊥
+differs v u h e = both_ways (not (eqb v u)) (ap not (eq-eqb v u (sym e))) h
+
+pub agrees : (v u : ℕ) → not (eqb v u) ≡ false → u ≡ v
+agrees v u h = ⊎_elim (λ (e : v ≡ u). sym e) (λ (ne : v ≡ u → ⊥). absurd (both_ways (not (eqb v u)) h (ap not (ne_eqb v u ne)))) (cases_eq v u)
 
 -- the list had room, so memory was not wanting
 pub with_room : (g : Routing) (lanes : ℕ) (p : Pair) (s room : ℕ) (f : WalkFault) → channel_count g.rack ≤ room → WalkStops g lanes p s room f → WalkStops g lanes p s (channel_count g.rack) f
@@ -86,21 +93,19 @@ module _ (g : Routing) (levels : List ℕ) (lanes : ℕ) where
 
 -- the marks, from a table of zeros
 pub collected :
-    (g : Routing) (levels : List ℕ) (lanes : ℕ) (s t items : List ℕ) (len : ℕ) → AllFine g levels lanes (node_count g.rack) → Adds (AllSay g levels (node_count g.rack)) s t → ((k : ℕ) → get_or s k 0 ≡ 0) →
-    length t ≡ len → len ≡ turn_count (channel_count g.rack) → Collected g levels lanes (take len (t ++ drop (length t) items))
-collected g levels lanes s t items len fine adds zeros long size =
-    let is : take len (t ++ drop (length t) items) ≡ t = take_at t (drop (length t) items) len long in (
-      λ u v p. fine u v (host_below g.rack u p.0) p,
-      ap length is ∙ long ∙ size,
-      λ k b.
-          let same : get_or (take len (t ++ drop (length t) items)) k 0 ≡ get_or t k 0 = ap (λ xs. get_or xs k 0) is in (
-            λ h. ⊎_elim
-                (λ (z : bit (get_or s k 0) b ≡ true). absurd (both_ways (bit (get_or s k 0) b) (ap (λ n. bit n b) (zeros k) ∙ bit_zero b) z))
-                (λ (m : AllSay g levels (node_count g.rack) k b). m)
-                ((adds k b).0 (ap (λ n. bit n b) (sym same) ∙ h)),
-            λ m. ap (λ n. bit n b) same ∙ (adds k b).1 (inr m),
-          ),
-    )
+    (g : Routing) (levels : List ℕ) (lanes : ℕ) (s t : List ℕ) → AllFine g levels lanes (node_count g.rack) → Adds (AllSay g levels (node_count g.rack)) s t → ((k : ℕ) → get_or s k 0 ≡ 0) →
+    length t ≡ turn_count (channel_count g.rack) → Collected g levels lanes t
+collected g levels lanes s t fine adds zeros long = (
+  λ u v p. fine u v (host_below g.rack u p.0) p,
+  long,
+  λ k b. (
+    λ h. ⊎_elim
+        (λ (z : bit (get_or s k 0) b ≡ true). absurd (both_ways (bit (get_or s k 0) b) (ap (λ n. bit n b) (zeros k) ∙ bit_zero b) z))
+        (λ (m : AllSay g levels (node_count g.rack) k b). m)
+        ((adds k b).0 h),
+    λ m. (adds k b).1 (inr m),
+  ),
+)
 
 -- a table of zeros
 pub zero_at : (n k : ℕ) → ◌≡◌ {A = ℕ} (get_or (replicate n 0) k 0) 0

@@ -1,9 +1,12 @@
 -- Looking for the least follower or forerunner, channel by channel. Assumes nothing.
-use Rattle.std.proofs.Common.{◌≡◌, ℕ, ◌+◌, ◌*◌, ◌/◌, ◌%◌, ◌^◌, ◌<◌, ◌≤◌, Bool, true, false, eqb, List, sym, ap, ◌∙◌, subst, ⊎_elim, arith, eq-eqb, ne_eqb, eqb-true}
+use Rattle.std.proofs.Common.{◌≡◌, ℕ, ◌+◌, ◌*◌, ◌/◌, ◌%◌, ◌^◌, ◌<◌, ◌≤◌, Bool, true, false, eqb, List, length, get_or, Some, None, Option, MatchOption, sym, ap, ◌∙◌, subst, ⊎_elim, arith, eq-eqb, ne_eqb, eqb-true}
 use native.Mathlib.Nat.{zero-div}
 use borrow.Author.Tests.{both_ways}
 use Rattle.std.proofs.lemmas.Bool.{cases_lt, cases_eq}
+use Rattle.std.specs.List.{AllWithin, HoldsAt}
+use Rattle.rack.specs.declared.numbers.Channel.{Channel}
 use Rattle.rack.specs.declared.rack.Rack.{Rack}
+use Rattle.rack.proofs.Lists.{Lists}
 use Rattle.rack.specs.Racks.{channel_count, head, tail, Leaving, Entering, EntersSwitch}
 use Rattle.routing.specs.Sources.{enters_switch}
 use Rattle.routing.specs.Turns.{turns}
@@ -26,64 +29,93 @@ low_lane_from d from i l h =
     (λ (q : d ≡ from / 8 → ⊥). omega arith)
     (cases_eq d (from / 8))
 
--- P holds of virtual channels, of lane i of channel d only where Out d and W d i hold
-module _ (P : ℕ → Type 0) (Out : ℕ → Type 0) (W : ℕ → ℕ → Bool) (from : ℕ) (sound : (y : ℕ) → P y → Out (y / 8) × (W (y / 8) (y % 8) ≡ true)) where
-  -- none below lane q of channel d, where that is the next channel from n on
-  pub scan_below :
-      (n d q : ℕ) → q ≤ 8 → ((y : ℕ) → from ≤ y → y < 8 * n → P y → ⊥) → ((e : ℕ) → n ≤ e → e < d → Out e → ⊥) → ((i : ℕ) → low_lane d from ≤ i → i < q → W d i ≡ false) →
-      (y : ℕ) → from ≤ y → y < 8 * d + q → P y → ⊥
-  scan_below n d q few before between here y l u p =
-      let s = sound y p in
-      ⊎_elim
-      (λ (a : y / 8 < n). before y l (omega arith) p)
-      (λ (a : n ≤ y / 8).
-      ⊎_elim
-      (λ (b : y / 8 < d). between (y / 8) a b s.0)
-      (λ (b : d ≤ y / 8).
-      let e : y / 8 ≡ d = omega arith in
-      both_ways (W (y / 8) (y % 8)) (subst (λ k. W k (y % 8) ≡ false) (sym e) (here (y % 8) (low_lane_le d from y l e) (omega arith))) s.1)
-      (cases_lt (y / 8) d))
-      (cases_lt (y / 8) n)
+-- P holds of no virtual channel from `from` on of the first k channels of a list
+abbrev pub Passed : (ℕ → Type 0) → ℕ → List Channel → ℕ → Type 0
+Passed P from list k = (y j : ℕ) → from ≤ y → P y → j < k → get_or list j (record { 0 = y / 8 }) ≡ record { 0 = y / 8 } → ⊥
 
-  -- none at all, where no channel from n on is left
-  pub scan_end : (n : ℕ) → ((y : ℕ) → from ≤ y → y < 8 * n → P y → ⊥) → ((e : ℕ) → n ≤ e → Out e → ⊥) → (y : ℕ) → from ≤ y → P y → ⊥
-  scan_end n before after y l p =
-      ⊎_elim (λ (a : y / 8 < n). before y l (omega arith) p) (λ (a : n ≤ y / 8). after (y / 8) a (sound y p).0) (cases_lt (y / 8) n)
-
--- the same, where a set bit also makes P hold
+-- P holds of virtual channels, of lane i of channel d only where Out d and W d i hold; the list has the channels with Out, in ascending order
 module _
     (P : ℕ → Type 0) (Out : ℕ → Type 0) (W : ℕ → ℕ → Bool) (from : ℕ)
     (sound : (y : ℕ) → P y → Out (y / 8) × (W (y / 8) (y % 8) ≡ true))
-    (makes : (d q : ℕ) → Out d → q < 8 → W d q ≡ true → P (8 * d + q)) where
+    (list : List Channel) (all : Lists Out list) where
+  -- one channel more, below the channel of `from`
+  pub scan_skipped : (k : ℕ) (c : ℕ) → HoldsAt (λ d. d.0 ≡ c) list k → c < from / 8 → Passed P from list k → Passed P from list (k + 1)
+  scan_skipped k c here low before y j l p u at =
+      ⊎_elim
+      (λ (e : j ≡ k). omega (arith, ap (λ (x : Channel). x.0) (sym at ∙ ap (λ n. get_or list n (record { 0 = y / 8 })) e) ∙ here (record { 0 = y / 8 })))
+      (λ (other : j ≡ k → ⊥). before y j l p (omega arith) at)
+      (cases_eq j k)
+
+  -- one channel more, of which no lane's bit is set
+  pub scan_passed :
+      (k low : ℕ) (c : ℕ) → HoldsAt (λ d. d.0 ≡ c) list k → low ≡ low_lane c from → ((i : ℕ) → low ≤ i → i < 8 → W c i ≡ false) →
+      Passed P from list k → Passed P from list (k + 1)
+  scan_passed k low c here is lower before y j l p u at =
+      ⊎_elim
+      (λ (e : j ≡ k).
+      let same : y / 8 ≡ c = ap (λ (x : Channel). x.0) (sym at ∙ ap (λ n. get_or list n (record { 0 = y / 8 })) e) ∙ here (record { 0 = y / 8 }) in
+      both_ways (W (y / 8) (y % 8)) (subst (λ n. W n (y % 8) ≡ false) (sym same) (lower (y % 8) (omega (arith, is, low_lane_le c from y l same)) (omega arith))) (sound y p).1)
+      (λ (other : j ≡ k → ⊥). before y j l p (omega arith) at)
+      (cases_eq j k)
+
+  -- none at all, where no channel is left
+  pub scan_end : (k : ℕ) → length list ≤ k → Passed P from list k → (y : ℕ) → from ≤ y → P y → ⊥
+  scan_end k end before y l p =
+      let at = all.every (record { 0 = y / 8 }) (sound y p).0 in
+      before y at.0 l p (omega (arith, at.1)) at.2
+
+  -- the first, where a set bit also makes P hold
   pub scan_found :
-      (n d q low y : ℕ) → from / 8 ≤ n → ((y : ℕ) → from ≤ y → y < 8 * n → P y → ⊥) → n ≤ d → Out d → ((e : ℕ) → n ≤ e → e < d → Out e → ⊥) → low ≡ low_lane d from →
-      low ≤ q → q < 8 → W d q ≡ true → ((i : ℕ) → low ≤ i → i < q → W d i ≡ false) → y ≡ 8 * d + q →
+      ((d q : ℕ) → Out d → q < 8 → W d q ≡ true → P (8 * d + q)) →
+      (k low q y : ℕ) (c : ℕ) → k < length list → HoldsAt (λ d. d.0 ≡ c) list k → from / 8 ≤ c → low ≡ low_lane c from →
+      low ≤ q → q < 8 → W c q ≡ true → ((i : ℕ) → low ≤ i → i < q → W c i ≡ false) → y ≡ 8 * c + q → Passed P from list k →
       (from ≤ y) × P y × ((z : ℕ) → from ≤ z → z < y → P z → ⊥)
-  scan_found n d q low y start before next out between is least few set lower e = (
-    omega (arith, low_lane_from d from q (omega arith) (omega arith)),
-    subst P (sym e) (makes d q out few set),
-    λ z l u. scan_below P Out W from sound n d q (omega arith) before between (λ i a b. lower i (omega arith) b) z l (omega arith),
+  scan_found makes k low q y c inside here start is least few set lower is_at before = (
+    omega (arith, low_lane_from c from q start (omega arith)),
+    subst P (sym is_at) (makes c q (let blank : Channel = record { 0 = 0 } in subst Out (here blank) (all.each k blank inside)) few set),
+    λ z l u p.
+        let blank : Channel = record { 0 = z / 8 } in
+        let s = sound z p in
+        let at = all.every blank s.0 in
+        ⊎_elim
+        (λ (first : at.0 < k). before z at.0 l p first at.2)
+        (λ (after : k ≤ at.0).
+        ⊎_elim
+        (λ (e : at.0 ≡ k).
+        let same : z / 8 ≡ c = ap (λ (x : Channel). x.0) (sym at.2 ∙ ap (λ n. get_or list n blank) e) ∙ here blank in
+        both_ways (W (z / 8) (z % 8)) (subst (λ n. W n (z % 8) ≡ false) (sym same) (lower (z % 8) (omega (arith, is, low_lane_le c from z l same)) (omega (arith, same, is_at)))) s.1)
+        (λ (other : at.0 ≡ k → ⊥). omega (arith, all.ascending k at.0 blank (omega arith) at.1, ap (λ (x : Channel). x.0) at.2, here blank))
+        (cases_eq at.0 k))
+        (cases_lt at.0 k),
   )
 
-  pub scan_passed :
-      (n d low : ℕ) → ((y : ℕ) → from ≤ y → y < 8 * n → P y → ⊥) → ((e : ℕ) → n ≤ e → e < d → Out e → ⊥) → low ≡ low_lane d from → ((i : ℕ) → low ≤ i → i < 8 → W d i ≡ false) →
-      (y : ℕ) → from ≤ y → y < 8 * (d + 1) → P y → ⊥
-  scan_passed n d low before between is lower y l u =
-      scan_below P Out W from sound n d 8 (omega arith) before between (λ i a b. lower i (omega arith) b) y l (omega arith)
-
--- channel by channel: P holds only of channels with Out
-module _ (P : ℕ → Type 0) (Out : ℕ → Type 0) (from : ℕ) (sound : (y : ℕ) → P y → Out y) where
-  pub go_below : (n d : ℕ) → ((y : ℕ) → from ≤ y → y < n → P y → ⊥) → ((e : ℕ) → n ≤ e → e < d → Out e → ⊥) → (y : ℕ) → from ≤ y → y < d → P y → ⊥
-  go_below n d before between y l u p =
-      ⊎_elim (λ (a : y < n). before y l a p) (λ (a : n ≤ y). between y a u (sound y p)) (cases_lt y n)
-
-  pub go_passed : (n d : ℕ) → ((y : ℕ) → from ≤ y → y < n → P y → ⊥) → ((e : ℕ) → n ≤ e → e < d → Out e → ⊥) → (P d → ⊥) → (y : ℕ) → from ≤ y → y < d + 1 → P y → ⊥
-  go_passed n d before between not y l u p =
-      ⊎_elim (λ (e : y ≡ d). not (subst P e p)) (λ (ne : y ≡ d → ⊥). go_below n d before between y l (omega arith) p) (cases_eq y d)
-
-  pub go_end : (n : ℕ) → ((y : ℕ) → from ≤ y → y < n → P y → ⊥) → ((e : ℕ) → n ≤ e → Out e → ⊥) → (y : ℕ) → from ≤ y → P y → ⊥
-  go_end n before after y l p =
-      ⊎_elim (λ (a : y < n). before y l a p) (λ (a : n ≤ y). after y a (sound y p)) (cases_lt y n)
+-- a search of a list of channels, which has those with Out in ascending order, for the first from `from` on that Q holds of
+module _ (Out Q : ℕ → Type 0) (list : List Channel) (all : Lists Out list) (from : ℕ) where
+  pub first_marked :
+      (o : Option Channel) →
+      MatchOption o (AllWithin (λ c. from ≤ c.0 → Q c.0 → ⊥) list 0 (length list))
+      (λ c. ((from ≤ c.0) × Q c.0) × (i : ℕ) × (i < length list) × HoldsAt (λ d. d ≡ c) list i × AllWithin (λ d. from ≤ d.0 → Q d.0 → ⊥) list 0 i) →
+      MatchOption o ((c : ℕ) → from ≤ c → Out c → Q c → ⊥) (λ c. (from ≤ c.0) × Out c.0 × Q c.0 × ((d : ℕ) → from ≤ d → d < c.0 → Out d → Q d → ⊥))
+  first_marked None none = λ c l out q.
+      let at = all.every (record { 0 = c }) out in
+      none at.0 (record { 0 = c }) (omega arith) at.1 (subst (λ (x : Channel). from ≤ x.0) (sym at.2) l) (subst (λ (x : Channel). Q x.0) (sym at.2) q)
+  first_marked (Some c) found =
+      let i = found.1 in (
+        found.0.0,
+        subst (λ (x : Channel). Out x.0) (found.3 c) (all.each i c found.2),
+        found.0.1,
+        λ d l low out q.
+            let blank : Channel = record { 0 = d } in
+            let at = all.every blank out in
+            ⊎_elim
+            (λ (first : at.0 < i). found.4 at.0 blank (omega arith) first (subst (λ (x : Channel). from ≤ x.0) (sym at.2) l) (subst (λ (x : Channel). Q x.0) (sym at.2) q))
+            (λ (after : i ≤ at.0).
+            absurd (⊎_elim
+            (λ (e : at.0 ≡ i). omega (arith, ap (λ (x : Channel). x.0) (sym at.2 ∙ ap (λ k. get_or list k blank) e ∙ found.3 blank)))
+            (λ (other : at.0 ≡ i → ⊥). omega (arith, all.ascending i at.0 blank (omega arith) at.1, ap (λ (x : Channel). x.0) at.2, ap (λ (x : Channel). x.0) (found.3 blank)))
+            (cases_eq at.0 i)))
+            (cases_lt at.0 i),
+      )
 
 pub bit_zero : (k : ℕ) → bit 0 k ≡ false
 bit_zero k = ap (λ n. eqb (n % 2) 1) (zero-div (2 ^ k))

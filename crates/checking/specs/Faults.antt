@@ -1,5 +1,7 @@
 -- What is told of each refusal of the check: its number and its values. Assumes nothing.
 use Rattle.std.specs.Prelude.{ℕ, Some, None, Option}
+use Rattle.ranking.specs.declared.faults.RankFault.{RankFault}
+use Rattle.ranking.specs.declared.faults.RankFault.TheVariants.{Tables as ShortTables, Ring as RingFound}
 use Rattle.routing.specs.declared.pair.Pair.{Pair}
 use Rattle.routing.specs.declared.fault.WalkFault.{WalkFault}
 use Rattle.checking.specs.declared.fault.CheckFault.{CheckFault}
@@ -18,3 +20,8 @@ check_refusal (Level p) = record { number = Some 26; about = Some p; walk = None
 check_refusal (Walk f) = record { number = None; about = None; walk = Some f }
 check_refusal (Ring n) = record { number = Some 25; about = None; walk = None }
 check_refusal Memory = record { number = None; about = None; walk = None }
+
+-- what the check answers where the ranking refuses: the same, as a refusal of its own
+abbrev pub rank_refusal : RankFault → CheckFault
+rank_refusal ShortTables = Tables
+rank_refusal (RingFound n) = Ring n

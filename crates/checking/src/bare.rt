@@ -2,15 +2,16 @@
 ghost use Rattle.std.specs.Prelude.{◌≡◌, ◌<◌, Decides, ◌≢◌, slice_index};
 ghost use Rattle.rack.specs.Racks.{channel_count, tail_port};
 ghost use Rattle.routing.specs.Turns.{turn_place};
+ghost use Rattle.std.proofs.Common.{arith};
 ghost use Rattle.checking.specs.Words.{ChannelFollowedBy};
 ghost use Rattle.checking.specs.Answers.{BareChecked};
 
 use crate::fault::CheckFault;
-use crate::graph::word_at;
+use crate::graph::{dependency_words, word_at};
 use rack::numbers::Channel;
 use rack::rack::Rack;
-use ranking::{Graph, RankFault, rank};
-use routing::rows::PORTS;
+use rack::rack::ask::way_back;
+use ranking::{Graph, rank};
 
 #[derive(Clone, Copy)]
 pub struct Channels<'a> {
@@ -23,10 +24,11 @@ impl Channels<'_> {
     fn is_marked(&self, arriving: Channel, leaving: Channel) -> bool
         ensures { Decides result ((leaving.0 < channel_count self.now.rack.now) × (slice_index self.now.dependencies.now (turn_place arriving.0 (tail_port self.now.rack.now leaving.0)) ≢ 0)) }
     {
-        match self.rack.ends(leaving) {
-            Some(ends) => word_at(self.dependencies, arriving, ends.tail.port) != 0,
-            None => false,
-        }
+        self.rack.ends(leaving).is_some_and(|ends| word_at(
+            self.dependencies,
+            arriving,
+            ends.tail.port,
+        ) != 0)
     }
 }
 
@@ -41,33 +43,28 @@ impl Graph for Channels<'_> {
 
     fn next_follower(&self, x: u16, from: u16) -> Option<u16> {
         let arriving = Channel(x);
-        let Some(ends) = self.rack.ends(arriving) else {
-            return None;
-        };
-        let mut next = Channel(from);
-        while let Some(leaving) = self.rack.next_leaving(ends.head.node, next) {
-            if self.is_marked(arriving, leaving) {
-                return Some(leaving.0);
-            }
-            next = Channel(leaving.0 + 1);
-        }
-        None
+        let ends = self.rack.ends(arriving)?;
+        let found = self.rack.leaving(ends.head.node).iter().copied().find(|leaving| {
+            leaving.0 >= from && self.is_marked(arriving, *leaving)
+        })?;
+        Some(found.0)
     }
 
     fn next_forerunner(&self, y: u16, from: u16) -> Option<u16> {
         let leaving = Channel(y);
-        let Some(ends) = self.rack.ends(leaving) else {
-            return None;
-        };
-        let mut next = Channel(from);
-        while let Some(arriving) = self.rack.next_entering(ends.tail.node, next) {
-            if self.is_marked(arriving, leaving) {
-                return Some(arriving.0);
-            }
-            next = Channel(arriving.0 + 1);
-        }
-        None
+        let ends = self.rack.ends(leaving)?;
+        let found = self
+            .rack
+            .leaving(ends.tail.node)
+            .iter()
+            .map(|channel| way_back(*channel))
+            .find(|arriving| arriving.0 >= from && self.is_marked(*arriving, leaving))?;
+        Some(found.0)
     }
+
+    ghost within = { λ g x y h. (h.0, h.1) };
+
+    ghost small = { λ g. Prim.omega (arith, g.rack.now.few.1) };
 }
 
 // The greatest rank of a channel, where channels do not follow one another in a ring.
@@ -79,14 +76,10 @@ pub fn check_channels<'x>(
 ) -> Result<u16, CheckFault>
     ensures { BareChecked rack.now dependencies.now ranks.old ranks.new ring.old ring.new result }
 {
-    let channels = rack.channel_count();
-    if dependencies.len() < PORTS * channels {
+    if dependencies.len() < dependency_words(rack) {
         return Err(CheckFault::Tables);
     }
     let graph = Channels { rack, dependencies };
-    match rank(&graph, ranks, ring) {
-        Ok(greatest) => Ok(greatest),
-        Err(RankFault::Ring { length }) => Err(CheckFault::Ring { length }),
-        Err(RankFault::Tables) => Err(CheckFault::Tables),
-    }
+    let greatest = rank(&graph, ranks, ring)?;
+    Ok(greatest)
 }

@@ -1,8 +1,9 @@
 // Why a plan is refused.
 ghost use Rattle.std.specs.Prelude.{◌≡◌};
-ghost use Rattle.checking.specs.Faults.{check_refusal};
+ghost use Rattle.checking.specs.Faults.{check_refusal, rank_refusal};
 ghost use Rattle.checking.specs.declared.fault.CheckFault.TheVariants.{Walk, Memory};
 
+use ranking::RankFault;
 use routing::fault::WalkFault;
 use routing::pair::Pair;
 use std::alloc::AllocError;
@@ -28,6 +29,17 @@ impl From<WalkFault> for CheckFault {
 
     fn from(fault: WalkFault) -> CheckFault {
         CheckFault::Walk(fault)
+    }
+}
+
+impl From<RankFault> for CheckFault {
+    ghost from_gives = { λ f r. r ≡ rank_refusal f };
+
+    fn from(fault: RankFault) -> CheckFault {
+        match fault {
+            RankFault::Tables => CheckFault::Tables,
+            RankFault::Ring { length } => CheckFault::Ring { length },
+        }
     }
 }
 
@@ -65,7 +77,7 @@ impl CheckFault {
         }
     }
 
-    // The fault of a walk, as it was handed up.
+    // The fault of a walk, as it was handed up. Three layers have this question, and no function asks it of more than one: a trait would say it a fourth time.
     pub fn walk(self) -> Option<WalkFault>
         ensures { result ≡ (check_refusal self).walk }
     {

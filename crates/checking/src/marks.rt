@@ -1,11 +1,11 @@
 // Walks the paths of all pairs and marks what follows what.
-ghost use Rattle.std.specs.Prelude.{◌≡◌, ℕ, ◌+◌, ◌-◌, ◌<◌, ◌≤◌, true, length, vec_capacity, MatchResult, slice_index_or};
+ghost use Rattle.std.specs.Prelude.{◌≡◌, ℕ, ◌+◌, ◌-◌, ◌<◌, ◌≤◌, true, length, vec_len, vec_capacity, OnOk, IfErr, slice_index_or};
 ghost use Rattle.rack.specs.Racks.{node_count, channel_count, Host};
 ghost use Rattle.routing.specs.Turns.{turns, turn_count};
-ghost use Rattle.routing.specs.Paths.{routing, PairOf};
+ghost use Rattle.routing.specs.Paths.{PairOf};
 ghost use Rattle.routing.specs.Walks.{hop_of};
-ghost use Rattle.checking.specs.Starts.{Ranged};
 ghost use Rattle.checking.specs.Plans.{FinePair, AtFault, FirstFault};
+ghost use Rattle.routing.specs.Plans.{routing_of};
 ghost use Rattle.checking.specs.Marks.{Adds, Says, ListSays, PairSays, SenderSays, AllSay, SenderFine, SenderFault, AllFine};
 
 use crate::fault::CheckFault;
@@ -38,72 +38,72 @@ fn mark_path(rack: &Rack, marks: &mut [u64], path: &[Step])
     requires room { turn_count (channel_count rack.now) ≤ length marks.old }
     ensures { Adds (ListSays rack.now path.now (length path.now - 1)) marks.old marks.new }
 {
-    for i in 1..path.len() {
-        mark(rack, marks, path[i - 1], path[i]);
+    for (one, other) in path.iter().zip(path.iter().skip(1)) {
+        mark(rack, marks, *one, *other);
     }
 }
 
-// One pair: its level, its path, and the marks of its path.
-fn mark_pair<S: ForwardingSource, M: LaneMap>(
-    plan: &Plan<'_, S, M>,
-    pair: Pair,
-    path: &mut Vec<Step>,
-    marks: &mut [u64],
-) -> Result<(), CheckFault>
-    requires pair { PairOf plan.now.rack.now pair.sender.0 pair.receiver.0 }
-    requires lanes { 1 ≤ plan.now.lanes }
-    requires cap { channel_count plan.now.rack.now ≤ vec_capacity path.old }
-    requires room { turn_count (channel_count plan.now.rack.now) ≤ length marks.old }
-    ensures answer { MatchResult result (λ _. FinePair (routing plan.now.rack.now (S.ForwardingSource.route plan.now.source.now) (M.LaneMap.lanes plan.now.map.now)) plan.now.levels.now plan.now.lanes pair.sender.0 pair.receiver.0 × Adds (PairSays (routing plan.now.rack.now (S.ForwardingSource.route plan.now.source.now) (M.LaneMap.lanes plan.now.map.now)) plan.now.levels.now pair.sender.0 pair.receiver.0) marks.old marks.new) (AtFault (routing plan.now.rack.now (S.ForwardingSource.route plan.now.source.now) (M.LaneMap.lanes plan.now.map.now)) plan.now.levels.now plan.now.lanes pair) }
-    ensures cap { channel_count plan.now.rack.now ≤ vec_capacity path.new }
-{
-    let Some(level) = level_of(plan.rack, plan.levels, pair) else {
-        return Err(CheckFault::Level { pair });
-    };
-    walk(plan, pair, level, path)?;
-    mark_path(plan.rack, marks, path);
-    Ok(())
+// The marks of the pairs that a plan has so far, and a list with room for the path of any one pair.
+#[derive(Drop)]
+pub(crate) struct Marker<'a, S, M> {
+    pub plan: &'a Plan<'a, S, M>,
+    pub path: Vec<Step>,
+    pub marks: Vec<u64>,
+    ghost some: { 1 ≤ plan.now.lanes },
+    ghost cap: { channel_count plan.now.rack.now ≤ vec_capacity path },
+    ghost room: { vec_len marks ≡ turn_count (channel_count plan.now.rack.now) },
 }
 
-// The pairs of one sender, by ascending receiver.
-fn mark_sender<S: ForwardingSource, M: LaneMap>(
-    plan: &Plan<'_, S, M>,
-    sender: Node,
-    path: &mut Vec<Step>,
-    marks: &mut [u64],
-) -> Result<(), CheckFault>
-    requires host { Host plan.now.rack.now sender.0 }
-    requires lanes { 1 ≤ plan.now.lanes }
-    requires cap { channel_count plan.now.rack.now ≤ vec_capacity path.old }
-    requires room { turn_count (channel_count plan.now.rack.now) ≤ length marks.old }
-    ensures answer { MatchResult result (λ _. SenderFine (routing plan.now.rack.now (S.ForwardingSource.route plan.now.source.now) (M.LaneMap.lanes plan.now.map.now)) plan.now.levels.now plan.now.lanes sender.0 (node_count plan.now.rack.now) × Adds (SenderSays (routing plan.now.rack.now (S.ForwardingSource.route plan.now.source.now) (M.LaneMap.lanes plan.now.map.now)) plan.now.levels.now sender.0 (node_count plan.now.rack.now)) marks.old marks.new) (SenderFault (routing plan.now.rack.now (S.ForwardingSource.route plan.now.source.now) (M.LaneMap.lanes plan.now.map.now)) plan.now.levels.now plan.now.lanes sender) }
-    ensures cap { channel_count plan.now.rack.now ≤ vec_capacity path.new }
-{
-    for v in 0..plan.rack.node_count() as u16 {
-        let receiver = Node(v);
-        if v != sender.0 && plan.rack.is_host(receiver) {
-            mark_pair(plan, Pair { sender, receiver }, path, marks)?;
+impl<S: ForwardingSource, M: LaneMap> Marker<'_, S, M> {
+    // One pair: its level, its path, and the marks of its path.
+    fn mark_pair(&mut self, pair: Pair) -> Result<(), CheckFault>
+        requires { PairOf self.old.plan.now.rack.now pair.sender.0 pair.receiver.0 }
+        ensures plan { self.new.plan ≡ self.old.plan }
+        ensures fine { OnOk result (FinePair (routing_of S.route M.lanes self.old.plan.now) self.old.plan.now.levels.now self.old.plan.now.lanes pair.sender.0 pair.receiver.0) }
+        ensures marks { OnOk result (Adds (PairSays (routing_of S.route M.lanes self.old.plan.now) self.old.plan.now.levels.now pair.sender.0 pair.receiver.0) self.old.marks.items self.new.marks.items) }
+        ensures fault { IfErr result (AtFault (routing_of S.route M.lanes self.old.plan.now) self.old.plan.now.levels.now self.old.plan.now.lanes pair) }
+    {
+        let plan = self.plan;
+        let Some(level) = level_of(plan.rack, plan.levels, pair) else {
+            return Err(CheckFault::Level { pair });
+        };
+        walk(plan, pair, level, &mut self.path)?;
+        mark_path(plan.rack, &mut self.marks, &self.path);
+        Ok(())
+    }
+
+    // The pairs of one sender, by ascending receiver.
+    fn mark_sender(&mut self, sender: Node) -> Result<(), CheckFault>
+        requires { Host self.old.plan.now.rack.now sender.0 }
+        ensures plan { self.new.plan ≡ self.old.plan }
+        ensures fine { OnOk result (SenderFine (routing_of S.route M.lanes self.old.plan.now) self.old.plan.now.levels.now self.old.plan.now.lanes sender.0 (node_count self.old.plan.now.rack.now)) }
+        ensures marks { OnOk result (Adds (SenderSays (routing_of S.route M.lanes self.old.plan.now) self.old.plan.now.levels.now sender.0 (node_count self.old.plan.now.rack.now)) self.old.marks.items self.new.marks.items) }
+        ensures fault { IfErr result (SenderFault (routing_of S.route M.lanes self.old.plan.now) self.old.plan.now.levels.now self.old.plan.now.lanes sender) }
+    {
+        let plan = self.plan;
+        for v in 0..plan.rack.node_count() as u16 {
+            let receiver = Node(v);
+            if receiver != sender && plan.rack.is_host(receiver) {
+                self.mark_pair(Pair { sender, receiver })?;
+            }
         }
+        Ok(())
     }
-    Ok(())
-}
 
-// All pairs, by ascending sender and then receiver; the first fault is the answer.
-pub(crate) fn mark_all<S: ForwardingSource, M: LaneMap>(
-    plan: &Plan<'_, S, M>,
-    path: &mut Vec<Step>,
-    marks: &mut [u64],
-) -> Result<(), CheckFault>
-    requires lanes { 1 ≤ plan.now.lanes }
-    requires cap { channel_count plan.now.rack.now ≤ vec_capacity path.old }
-    requires room { turn_count (channel_count plan.now.rack.now) ≤ length marks.old }
-    ensures answer { MatchResult result (λ _. AllFine (routing plan.now.rack.now (S.ForwardingSource.route plan.now.source.now) (M.LaneMap.lanes plan.now.map.now)) plan.now.levels.now plan.now.lanes (node_count plan.now.rack.now) × Adds (AllSay (routing plan.now.rack.now (S.ForwardingSource.route plan.now.source.now) (M.LaneMap.lanes plan.now.map.now)) plan.now.levels.now (node_count plan.now.rack.now)) marks.old marks.new) (FirstFault (routing plan.now.rack.now (S.ForwardingSource.route plan.now.source.now) (M.LaneMap.lanes plan.now.map.now)) plan.now.levels.now plan.now.lanes) }
-{
-    for u in 0..plan.rack.node_count() as u16 {
-        let sender = Node(u);
-        if plan.rack.is_host(sender) {
-            mark_sender(plan, sender, path, marks)?;
+    // All pairs, by ascending sender and then receiver; the first fault is the answer.
+    pub fn mark_all(&mut self) -> Result<(), CheckFault>
+        ensures plan { self.new.plan ≡ self.old.plan }
+        ensures fine { OnOk result (AllFine (routing_of S.route M.lanes self.old.plan.now) self.old.plan.now.levels.now self.old.plan.now.lanes (node_count self.old.plan.now.rack.now)) }
+        ensures marks { OnOk result (Adds (AllSay (routing_of S.route M.lanes self.old.plan.now) self.old.plan.now.levels.now (node_count self.old.plan.now.rack.now)) self.old.marks.items self.new.marks.items) }
+        ensures fault { IfErr result (FirstFault (routing_of S.route M.lanes self.old.plan.now) self.old.plan.now.levels.now self.old.plan.now.lanes) }
+    {
+        let plan = self.plan;
+        for u in 0..plan.rack.node_count() as u16 {
+            let sender = Node(u);
+            if plan.rack.is_host(sender) {
+                self.mark_sender(sender)?;
+            }
         }
+        Ok(())
     }
-    Ok(())
 }

@@ -15,10 +15,5 @@ pub fn lowest(word: u64, first: u8, step: u8, from: u8) -> Option<u8>
     requires { first + 7 * step < 64 }
     ensures { MatchOption result ((i : ℕ) → from ≤ i → i < 8 → bit word (first + step * i) ≡ false) (λ i. (from ≤ i) × (i < 8) × (bit word (first + step * i) ≡ true) × ((k : ℕ) → from ≤ k → k < i → bit word (first + step * k) ≡ false)) }
 {
-    for i in from..8 {
-        if has(word, first + step * i) {
-            return Some(i);
-        }
-    }
-    None
+    (from..8).find(|i| has(word, first + step * *i))
 }

@@ -2,7 +2,7 @@
 use crate::line::RAISED_ONCE;
 use crate::plans::{build_stored, check_stored};
 use crate::racks::{CLOCKWISE, line, triangle};
-use crate::tables::{Tables, Work, at, check_numbers, check_ring};
+use crate::tables::{Tables, Work, at, check_ring, check_table};
 use checking::bare::check_channels;
 use checking::fault::CheckFault;
 use rack::rack::Rack;
@@ -13,9 +13,9 @@ use std::test::*;
 // A dependency table for as many channels, with these words.
 fn words(heap: Global, channels: u16, entries: &[(usize, u64)]) -> Result<Vec<u64>, AllocError> {
     let mut out = vec![in heap; 0u64; 36 * usize::from(channels)]?;
-    for entry in entries {
-        if entry.0 < out.len() {
-            out[entry.0] = entry.1;
+    for (place, word) in entries {
+        if let Some(entry) = out.get_mut(*place) {
+            *entry = *word;
         }
     }
     Ok(out)
@@ -30,7 +30,7 @@ fn check_switch_ring(rt: &impl Abort, rack: &Rack, dependencies: &[u64]) -> Resu
         Err(CheckFault::Ring { length: 3 })
     );
     check_ring(rt, &ring, [6, 8, 10])?;
-    check_numbers(rt, &ranks, 12, &[])
+    check_table(rt, &ranks, 12, &[])
 }
 
 // Channels know no lanes: the ring is there under one lane and under the two that part it.
@@ -68,7 +68,7 @@ fn ranks_of_channels(rt: HostRuntime) -> Result<(), Fail> {
         check_channels(&rack, &dependencies, &mut ranks, &mut ring),
         Ok(4)
     );
-    check_numbers(
+    check_table(
         &rt,
         &ranks,
         14,
@@ -85,7 +85,7 @@ fn ranks_of_channels(rt: HostRuntime) -> Result<(), Fail> {
             (13, 1),
         ],
     )?;
-    check_numbers(&rt, &ring, 0, &[])
+    check_table(&rt, &ring, 0, &[])
 }
 
 // A word at a host counts too: 0 enters switch 3, 1 goes back to host 0, and 0 leaves it.
@@ -103,7 +103,7 @@ fn ring_through_a_host(rt: HostRuntime) -> Result<(), Fail> {
     let told = (at(&ring, 0), at(&ring, 1));
     assert!(rt; told == (0, 1) || told == (1, 0));
     assert_eq!(rt; at(&ring, 2), 9);
-    check_numbers(&rt, &ranks, 12, &[])
+    check_table(&rt, &ranks, 12, &[])
 }
 
 // A table one place short is refused, and nothing is written.

@@ -1,10 +1,11 @@
 // The triangle that forwards clockwise: its three switches make a ring unless lanes part it.
 use crate::plans::{build_stored, check_stored, check_two_hop};
-use crate::racks::{CLOCKWISE, pair, triangle};
-use crate::tables::{Tables, Work, check_bytes, check_numbers, check_ring, check_words};
+use crate::racks::{CLOCKWISE, triangle};
+use crate::tables::{Tables, Work, check_ring, check_table};
 use builder::fault::BuildFault;
 use checking::fault::CheckFault;
 use routing::fault::WalkFault;
+use routing::pair::Pair;
 use routing::stored::Stored;
 use std::test::*;
 
@@ -33,8 +34,8 @@ fn one_lane(rt: HostRuntime) -> Result<(), Fail> {
         Err(CheckFault::Ring { length: 3 })
     );
     check_ring(&rt, &work.ring, [48, 64, 80])?;
-    check_numbers(&rt, &work.ranks, 96, &[])?;
-    check_words(
+    check_table(&rt, &work.ranks, 96, &[])?;
+    check_table(
         &rt,
         &work.dependencies,
         432,
@@ -62,16 +63,16 @@ fn built_with_two_lanes(rt: HostRuntime) -> Result<(), Fail> {
         build_stored(heap, &rack, &CLOCKWISE, 2, &mut tables),
         Ok(())
     );
-    check_bytes(&rt, &tables.lanes, 6912, &[(3488, 1), (4640, 1), (5776, 1)])?;
-    check_bytes(&rt, &tables.levels, 36, &[])?;
+    check_table(&rt, &tables.lanes, 6912, &[(3488, 1), (4640, 1), (5776, 1)])?;
+    check_table(&rt, &tables.levels, 36, &[])?;
     let mut work = Work::marked(heap, &rack)?;
     assert_eq!(rt;
         check_stored(heap, &rack, &CLOCKWISE, &tables, 2, &mut work),
         Ok(3)
     );
-    check_words(&rt, &work.dependencies, 432, &PARTED)?;
+    check_table(&rt, &work.dependencies, 432, &PARTED)?;
     // 6, 8 and 10 on lane 0 are second, on lane 1 third, and the channels to the hosts last
-    check_numbers(
+    check_table(
         &rt,
         &work.ranks,
         96,
@@ -87,7 +88,7 @@ fn built_with_two_lanes(rt: HostRuntime) -> Result<(), Fail> {
             (81, 2),
         ],
     )?;
-    check_numbers(&rt, &work.ring, 0, &[])
+    check_table(&rt, &work.ring, 0, &[])
 }
 
 // With one lane there is none for the path from 0 to 2, and both tables are cleared.
@@ -98,10 +99,12 @@ fn built_with_one_lane(rt: HostRuntime) -> Result<(), Fail> {
     let mut tables = Tables::marked(heap, &rack)?;
     assert_eq!(rt;
         build_stored(heap, &rack, &CLOCKWISE, 1, &mut tables),
-        Err(BuildFault::Lane { pair: pair(0, 2) })
+        Err(BuildFault::Lane {
+            pair: Pair::of(0, 2)
+        })
     );
-    check_bytes(&rt, &tables.lanes, 6912, &[])?;
-    check_bytes(&rt, &tables.levels, 36, &[])
+    check_table(&rt, &tables.lanes, 6912, &[])?;
+    check_table(&rt, &tables.levels, 36, &[])
 }
 
 // The map that raises the lane once needs two lanes, and they suffice.
@@ -118,7 +121,7 @@ fn raised_once(rt: HostRuntime) -> Result<(), Fail> {
     assert_eq!(rt;
         check_two_hop(heap, &rack, &source, &levels, 1, &mut work),
         Err(CheckFault::Walk(WalkFault::Lane {
-            pair: pair(0, 1),
+            pair: Pair::of(0, 1),
             hop: 2,
         }))
     );
@@ -127,7 +130,7 @@ fn raised_once(rt: HostRuntime) -> Result<(), Fail> {
         check_two_hop(heap, &rack, &source, &levels, 2, &mut work),
         Ok(3)
     );
-    check_words(
+    check_table(
         &rt,
         &work.dependencies,
         432,
@@ -143,5 +146,5 @@ fn raised_once(rt: HostRuntime) -> Result<(), Fail> {
             (361, 2),
         ],
     )?;
-    check_numbers(&rt, &work.ring, 0, &[])
+    check_table(&rt, &work.ring, 0, &[])
 }

@@ -2,10 +2,11 @@
 // The row of a turn begins at 16 for channels 0 and 6, 1184 for 2 and 8, 2336 for 4 and 10, 3488 for 6 and 8, 4640 for 8 and 10, 5776 for 10 and 6.
 use crate::clockwise::PARTED;
 use crate::plans::{build_stored, check_stored};
-use crate::racks::{CLOCKWISE, pair, triangle};
-use crate::tables::{Tables, Work, check_numbers, check_ring, check_words};
+use crate::racks::{CLOCKWISE, triangle};
+use crate::tables::{Tables, Work, check_ring, check_table};
 use checking::fault::CheckFault;
 use routing::fault::WalkFault;
+use routing::pair::Pair;
 use std::test::*;
 
 // Channel 8 is on lane 2 throughout, and 10 behind it on lane 0 again: the ring goes through the fall.
@@ -20,7 +21,7 @@ fn ring_through_a_fall(rt: HostRuntime) -> Result<(), Fail> {
     assert_eq!(rt;
         check_stored(heap, &rack, &CLOCKWISE, &tables, 2, &mut work),
         Err(CheckFault::Walk(WalkFault::Lane {
-            pair: pair(0, 2),
+            pair: Pair::of(0, 2),
             hop: 2,
         }))
     );
@@ -30,8 +31,8 @@ fn ring_through_a_fall(rt: HostRuntime) -> Result<(), Fail> {
         Err(CheckFault::Ring { length: 3 })
     );
     check_ring(&rt, &work.ring, [48, 66, 80])?;
-    check_numbers(&rt, &work.ranks, 96, &[])?;
-    check_words(
+    check_table(&rt, &work.ranks, 96, &[])?;
+    check_table(
         &rt,
         &work.dependencies,
         432,
@@ -61,13 +62,13 @@ fn fall_beside_the_ring(rt: HostRuntime) -> Result<(), Fail> {
         check_stored(heap, &rack, &CLOCKWISE, &tables, 3, &mut work),
         Ok(5)
     );
-    check_numbers(
+    check_table(
         &rt,
         &work.ranks,
         96,
         &[(8, 3), (24, 4), (40, 5), (48, 3), (64, 1), (66, 4), (80, 2)],
     )?;
-    check_numbers(&rt, &work.ring, 0, &[])
+    check_table(&rt, &work.ring, 0, &[])
 }
 
 // Lanes that rise from switch to switch are accepted, and so are lanes that fall, as long as there is no ring.
@@ -88,7 +89,7 @@ fn rising_and_falling(rt: HostRuntime) -> Result<(), Fail> {
             check_stored(heap, &rack, &CLOCKWISE, &tables, 3, &mut work),
             Ok(3)
         );
-        check_numbers(&rt, &work.ring, 0, &[])?;
+        check_table(&rt, &work.ring, 0, &[])?;
     }
     Ok(())
 }
@@ -103,20 +104,20 @@ fn level_of_no_pair(rt: HostRuntime) -> Result<(), Fail> {
         build_stored(heap, &rack, &CLOCKWISE, 2, &mut tables),
         Ok(())
     );
-    for turn in 0..432usize {
-        tables.set_lane(16 * turn + 5, 3);
+    for row in tables.lanes.chunks_exact_mut(16) {
+        row[5] = 3;
     }
     let mut work = Work::marked(heap, &rack)?;
     assert_eq!(rt;
         check_stored(heap, &rack, &CLOCKWISE, &tables, 2, &mut work),
         Ok(3)
     );
-    check_words(&rt, &work.dependencies, 432, &PARTED)?;
+    check_table(&rt, &work.dependencies, 432, &PARTED)?;
     tables.set_level(2, 5);
     assert_eq!(rt;
         check_stored(heap, &rack, &CLOCKWISE, &tables, 2, &mut work),
         Err(CheckFault::Walk(WalkFault::Lane {
-            pair: pair(0, 2),
+            pair: Pair::of(0, 2),
             hop: 1,
         }))
     );

@@ -1,12 +1,12 @@
 // A rack that sixteen levels are too few for: nine switches, each with a host, that send what is for a host through all switches, in an order of its own.
 use crate::plans::build_stored;
-use crate::racks::{cable, pair};
-use crate::tables::{Tables, check_bytes};
+use crate::tables::{Tables, check_table};
 use builder::fault::BuildFault;
 use rack::cable::Cable;
 use rack::fault::RackFault;
-use rack::numbers::Channel;
+use rack::numbers::{Channel, Node};
 use rack::rack::Rack;
+use routing::pair::Pair;
 use std::alloc::{AllocError, Global};
 use std::test::*;
 
@@ -18,9 +18,9 @@ fn circle_cables(heap: Global) -> Result<Vec<Cable>, AllocError> {
         let next = 9 + (host + 1) % 9;
         let second = 9 + (host + 2) % 9;
         out.extend_from_slice(&[
-            cable(host, 1, switch, 1),
-            cable(switch, 2, next, 3),
-            cable(switch, 4, second, 5),
+            Cable::between(host, 1, switch, 1),
+            Cable::between(switch, 2, next, 3),
+            Cable::between(switch, 4, second, 5),
         ])?;
     }
     Ok(out)
@@ -32,16 +32,17 @@ fn circle(heap: Global) -> Result<Rack, RackFault> {
     Rack::from_tables(heap, &nodes, &cables)
 }
 
+// Whether a channel leads from one node to another.
+fn leads(rack: &Rack, channel: Channel, tail: Node, head: Node) -> bool {
+    rack.ends(channel)
+        .is_some_and(|ends| ends.tail.node == tail && ends.head.node == head)
+}
+
 // One more than the channel from one node to another; 0 if there is none.
 fn entry(rack: &Rack, tail: u16, head: u16) -> u16 {
-    for c in 0..rack.channel_count() as u16 {
-        if let Some(ends) = rack.ends(Channel(c)) {
-            if ends.tail.node.0 == tail && ends.head.node.0 == head {
-                return c + 1;
-            }
-        }
-    }
-    0
+    (0..rack.channel_count() as u16)
+        .find(|c| leads(rack, Channel(*c), Node(tail), Node(head)))
+        .map_or(0, |c| c.saturating_add(1))
 }
 
 // The switch of a host.
@@ -52,16 +53,15 @@ fn switch(host: u8) -> u16 {
 // Has the switch of `at` send what is for a host to the next node.
 fn forward(rack: &Rack, forwarding: &mut [u16], at: u8, host: u8, next: u16) {
     let place = 18 * usize::from(switch(at)) + usize::from(host);
-    if place < forwarding.len() {
-        forwarding[place] = entry(rack, switch(at), next);
+    if let Some(told) = forwarding.get_mut(place) {
+        *told = entry(rack, switch(at), next);
     }
 }
 
 // Has each switch send what is for a host to the next in the order, and the last to the host.
 fn forward_all(rack: &Rack, forwarding: &mut [u16], host: u8, order: &[u8]) {
-    for i in 1..order.len() {
-        let next = switch(order[i]);
-        forward(rack, forwarding, order[i - 1], host, next);
+    for (at, next) in order.iter().zip(order.iter().skip(1)) {
+        forward(rack, forwarding, *at, host, switch(*next));
     }
     forward(rack, forwarding, host, host, u16::from(host));
 }
@@ -80,10 +80,8 @@ fn in_order(heap: Global, rack: &Rack) -> Result<Vec<u16>, AllocError> {
         &[5, 3, 4, 2, 1, 0, 7, 6, 8],
     ];
     let mut out = vec![in heap; 0u16; 324]?;
-    let mut host = 0u8;
-    for order in orders {
+    for (host, order) in (0u8..9).zip(orders) {
         forward_all(rack, &mut out, host, order);
-        host = host.saturating_add(1);
     }
     Ok(out)
 }
@@ -95,8 +93,18 @@ fn none_left(rt: HostRuntime) -> Result<(), Fail> {
     let rack = circle(heap)?;
     let forwarding = in_order(heap, &rack)?;
     let rows: [(u8, BuildFault); 2] = [
-        (7, BuildFault::Lane { pair: pair(0, 5) }),
-        (8, BuildFault::Level { pair: pair(8, 0) }),
+        (
+            7,
+            BuildFault::Lane {
+                pair: Pair::of(0, 5),
+            },
+        ),
+        (
+            8,
+            BuildFault::Level {
+                pair: Pair::of(8, 0),
+            },
+        ),
     ];
     for (lanes, fault) in rows {
         let mut tables = Tables::marked(heap, &rack)?;
@@ -104,8 +112,8 @@ fn none_left(rt: HostRuntime) -> Result<(), Fail> {
             build_stored(heap, &rack, &forwarding, lanes, &mut tables),
             Err(fault)
         );
-        check_bytes(&rt, &tables.lanes, 31104, &[])?;
-        check_bytes(&rt, &tables.levels, 324, &[])?;
+        check_table(&rt, &tables.lanes, 31104, &[])?;
+        check_table(&rt, &tables.levels, 324, &[])?;
     }
     Ok(())
 }

@@ -1,37 +1,35 @@
 // The line of four switches, by shortest ways.
-use crate::plans::{check_rows, check_two_hop};
-use crate::racks::{line, pair, turned_line};
-use crate::tables::{Tables, Work, check_bytes, check_numbers, check_words};
-use builder::build::build;
+use crate::plans::{build_rows, check_rows, check_two_hop};
+use crate::racks::{line, turned_line};
+use crate::tables::{Tables, Work, check_table};
 use builder::fault::BuildFault;
+use rack::rack::Rack;
 use routing::distances::fill_distances;
 use routing::downhill::Downhill;
+use routing::fault::DistanceFault;
+use routing::pair::Pair;
 use std::test::*;
+
+// The true distances of a rack of eight nodes.
+fn distances_of(rack: &Rack) -> Result<[u8; 64], DistanceFault> {
+    let mut distances = [0u8; 64];
+    fill_distances(rack, &mut distances)?;
+    Ok(distances)
+}
 
 // Two pairs find their turns taken at level 0, and have level 1.
 #[test]
 fn second_level(rt: HostRuntime) -> Result<(), Fail> {
     let heap = rt.alloc();
     let rack = line(heap)?;
-    let mut distances = [0u8; 64];
-    fill_distances(&rack, &mut distances)?;
+    let distances = distances_of(&rack)?;
     let source = Downhill {
         rack: &rack,
         distances: &distances,
     };
     let mut tables = Tables::marked(heap, &rack)?;
-    assert_eq!(rt;
-        build(
-            heap,
-            &rack,
-            &source,
-            3,
-            &mut tables.lanes,
-            &mut tables.levels,
-        ),
-        Ok(())
-    );
-    check_bytes(
+    assert_eq!(rt; build_rows(heap, &rack, &source, 3, &mut tables), Ok(()));
+    check_table(
         &rt,
         &tables.lanes,
         8064,
@@ -45,13 +43,13 @@ fn second_level(rt: HostRuntime) -> Result<(), Fail> {
             (7505, 1),
         ],
     )?;
-    check_bytes(&rt, &tables.levels, 64, &[(11, 1), (24, 1)])?;
+    check_table(&rt, &tables.levels, 64, &[(11, 1), (24, 1)])?;
     let mut work = Work::marked(heap, &rack)?;
     assert_eq!(rt;
         check_rows(heap, &rack, &source, &tables, 3, &mut work),
         Ok(4)
     );
-    check_numbers(&rt, &work.ring, 0, &[])
+    check_table(&rt, &work.ring, 0, &[])
 }
 
 // With the ends of the cables the other way round the levels are the same, and the lanes stand in the rows of the ways back.
@@ -59,25 +57,14 @@ fn second_level(rt: HostRuntime) -> Result<(), Fail> {
 fn ends_turned(rt: HostRuntime) -> Result<(), Fail> {
     let heap = rt.alloc();
     let rack = turned_line(heap)?;
-    let mut distances = [0u8; 64];
-    fill_distances(&rack, &mut distances)?;
+    let distances = distances_of(&rack)?;
     let source = Downhill {
         rack: &rack,
         distances: &distances,
     };
     let mut tables = Tables::marked(heap, &rack)?;
-    assert_eq!(rt;
-        build(
-            heap,
-            &rack,
-            &source,
-            3,
-            &mut tables.lanes,
-            &mut tables.levels,
-        ),
-        Ok(())
-    );
-    check_bytes(
+    assert_eq!(rt; build_rows(heap, &rack, &source, 3, &mut tables), Ok(()));
+    check_table(
         &rt,
         &tables.lanes,
         8064,
@@ -91,7 +78,7 @@ fn ends_turned(rt: HostRuntime) -> Result<(), Fail> {
             (6929, 1),
         ],
     )?;
-    check_bytes(&rt, &tables.levels, 64, &[(11, 1), (24, 1)])
+    check_table(&rt, &tables.levels, 64, &[(11, 1), (24, 1)])
 }
 
 // The path from end to end has five channels, one more than two lanes take.
@@ -99,26 +86,20 @@ fn ends_turned(rt: HostRuntime) -> Result<(), Fail> {
 fn too_few_lanes(rt: HostRuntime) -> Result<(), Fail> {
     let heap = rt.alloc();
     let rack = line(heap)?;
-    let mut distances = [0u8; 64];
-    fill_distances(&rack, &mut distances)?;
+    let distances = distances_of(&rack)?;
     let source = Downhill {
         rack: &rack,
         distances: &distances,
     };
     let mut tables = Tables::marked(heap, &rack)?;
     assert_eq!(rt;
-        build(
-            heap,
-            &rack,
-            &source,
-            2,
-            &mut tables.lanes,
-            &mut tables.levels,
-        ),
-        Err(BuildFault::Lane { pair: pair(0, 3) })
+        build_rows(heap, &rack, &source, 2, &mut tables),
+        Err(BuildFault::Lane {
+            pair: Pair::of(0, 3)
+        })
     );
-    check_bytes(&rt, &tables.lanes, 8064, &[])?;
-    check_bytes(&rt, &tables.levels, 64, &[])
+    check_table(&rt, &tables.lanes, 8064, &[])?;
+    check_table(&rt, &tables.levels, 64, &[])
 }
 
 // The dependency words where the lane is raised once, behind the first switch.
@@ -146,8 +127,7 @@ pub const RAISED_ONCE: [(usize, u64); 16] = [
 fn raised_once(rt: HostRuntime) -> Result<(), Fail> {
     let heap = rt.alloc();
     let rack = line(heap)?;
-    let mut distances = [0u8; 64];
-    fill_distances(&rack, &mut distances)?;
+    let distances = distances_of(&rack)?;
     let source = Downhill {
         rack: &rack,
         distances: &distances,
@@ -158,6 +138,6 @@ fn raised_once(rt: HostRuntime) -> Result<(), Fail> {
         check_two_hop(heap, &rack, &source, &levels, 2, &mut work),
         Ok(4)
     );
-    check_words(&rt, &work.dependencies, 504, &RAISED_ONCE)?;
-    check_numbers(&rt, &work.ring, 0, &[])
+    check_table(&rt, &work.dependencies, 504, &RAISED_ONCE)?;
+    check_table(&rt, &work.ring, 0, &[])
 }

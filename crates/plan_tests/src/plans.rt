@@ -13,22 +13,31 @@ use routing::stored::Stored;
 use routing::two_hop::TwoHop;
 use std::alloc::Global;
 
-// The greatest rank, where the plan is accepted.
-fn answer<S: ForwardingSource, M: LaneMap>(
+// Checks a plan; the greatest rank, where it is accepted.
+fn check_map<'x, S: ForwardingSource, M: LaneMap>(
     heap: Global,
-    plan: &Plan<'_, S, M>,
+    rack: &'x Rack,
+    source: &'x S,
+    map: &'x M,
+    levels: &'x [u8],
+    lanes: u8,
     work: &mut Work,
 ) -> Result<u16, CheckFault> {
-    match check_plan(
+    let plan = Plan {
+        rack,
+        source,
+        map,
+        levels,
+        lanes,
+    };
+    let acceptance = check_plan(
         heap,
-        plan,
+        &plan,
         &mut work.dependencies,
         &mut work.ranks,
         &mut work.ring,
-    ) {
-        Ok(acceptance) => Ok(acceptance.greatest_rank()),
-        Err(fault) => Err(fault),
-    }
+    )?;
+    Ok(acceptance.greatest_rank())
 }
 
 // Checks the plan that reads its lanes from the lane table.
@@ -44,14 +53,7 @@ pub fn check_rows<'x, S: ForwardingSource>(
         rack,
         lanes: &tables.lanes,
     };
-    let plan = Plan {
-        rack,
-        source,
-        map: &map,
-        levels: &tables.levels,
-        lanes,
-    };
-    answer(heap, &plan, work)
+    check_map(heap, rack, source, &map, &tables.levels, lanes, work)
 }
 
 // Checks the plan that raises the lane once.
@@ -63,15 +65,7 @@ pub fn check_two_hop<'x, S: ForwardingSource>(
     lanes: u8,
     work: &mut Work,
 ) -> Result<u16, CheckFault> {
-    let map = TwoHop { rack };
-    let plan = Plan {
-        rack,
-        source,
-        map: &map,
-        levels,
-        lanes,
-    };
-    answer(heap, &plan, work)
+    check_map(heap, rack, source, &TwoHop { rack }, levels, lanes, work)
 }
 
 // Checks a plan over a forwarding table and a lane table.
@@ -87,6 +81,24 @@ pub fn check_stored<'x>(
     check_rows(heap, rack, &source, tables, lanes, work)
 }
 
+// Builds over a source.
+pub fn build_rows<'x, S: ForwardingSource>(
+    heap: Global,
+    rack: &'x Rack,
+    source: &'x S,
+    lanes: u8,
+    tables: &mut Tables,
+) -> Result<(), BuildFault> {
+    build(
+        heap,
+        rack,
+        source,
+        lanes,
+        &mut tables.lanes,
+        &mut tables.levels,
+    )
+}
+
 // Builds over a forwarding table.
 pub fn build_stored<'x>(
     heap: Global,
@@ -96,12 +108,5 @@ pub fn build_stored<'x>(
     tables: &mut Tables,
 ) -> Result<(), BuildFault> {
     let source = Stored { rack, forwarding };
-    build(
-        heap,
-        rack,
-        &source,
-        lanes,
-        &mut tables.lanes,
-        &mut tables.levels,
-    )
+    build_rows(heap, rack, &source, lanes, tables)
 }

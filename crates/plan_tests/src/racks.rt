@@ -1,42 +1,20 @@
 // The racks that are planned, and how the triangle forwards.
-use rack::cable::{Cable, End};
+use rack::cable::Cable;
 use rack::fault::RackFault;
-use rack::numbers::{Node, Port};
 use rack::rack::Rack;
-use routing::pair::Pair;
 use std::alloc::Global;
-
-pub fn cable(v: u16, p: u8, w: u16, q: u8) -> Cable {
-    Cable {
-        first: End {
-            node: Node(v),
-            port: Port(p),
-        },
-        second: End {
-            node: Node(w),
-            port: Port(q),
-        },
-    }
-}
-
-pub fn pair(u: u16, v: u16) -> Pair {
-    Pair {
-        sender: Node(u),
-        receiver: Node(v),
-    }
-}
 
 // Hosts 0 to 2, each on its switch, 3 to 5, and a cable between any two switches.
 // Channel 6 goes from 3 to 4, 8 from 4 to 5 and 10 from 5 to 3.
 pub fn triangle(heap: Global) -> Result<Rack, RackFault> {
     let nodes = [1u8, 1, 1, 2, 2, 2];
     let cables = [
-        cable(0, 1, 3, 1),
-        cable(1, 1, 4, 1),
-        cable(2, 1, 5, 1),
-        cable(3, 2, 4, 2),
-        cable(4, 3, 5, 2),
-        cable(5, 3, 3, 3),
+        Cable::between(0, 1, 3, 1),
+        Cable::between(1, 1, 4, 1),
+        Cable::between(2, 1, 5, 1),
+        Cable::between(3, 2, 4, 2),
+        Cable::between(4, 3, 5, 2),
+        Cable::between(5, 3, 3, 3),
     ];
     Rack::from_tables(heap, &nodes, &cables)
 }
@@ -53,35 +31,35 @@ pub const CLOCKWISE: [u16; 36] = [
 pub fn line(heap: Global) -> Result<Rack, RackFault> {
     let nodes = [1u8, 1, 1, 1, 2, 2, 2, 2];
     let cables = [
-        cable(0, 1, 4, 1),
-        cable(1, 1, 5, 1),
-        cable(2, 1, 6, 1),
-        cable(3, 1, 7, 1),
-        cable(4, 2, 5, 2),
-        cable(5, 3, 6, 2),
-        cable(6, 3, 7, 2),
+        Cable::between(0, 1, 4, 1),
+        Cable::between(1, 1, 5, 1),
+        Cable::between(2, 1, 6, 1),
+        Cable::between(3, 1, 7, 1),
+        Cable::between(4, 2, 5, 2),
+        Cable::between(5, 3, 6, 2),
+        Cable::between(6, 3, 7, 2),
     ];
     Rack::from_tables(heap, &nodes, &cables)
 }
 
-// The line with the ends of each cable the other way round: each channel has the number of its way back.
+// A table of its own, as for every rack here: the line with the ends of each cable the other way round: each channel has the number of its way back.
 pub fn turned_line(heap: Global) -> Result<Rack, RackFault> {
     let nodes = [1u8, 1, 1, 1, 2, 2, 2, 2];
     let cables = [
-        cable(4, 1, 0, 1),
-        cable(5, 1, 1, 1),
-        cable(6, 1, 2, 1),
-        cable(7, 1, 3, 1),
-        cable(5, 2, 4, 2),
-        cable(6, 2, 5, 3),
-        cable(7, 2, 6, 3),
+        Cable::between(4, 1, 0, 1),
+        Cable::between(5, 1, 1, 1),
+        Cable::between(6, 1, 2, 1),
+        Cable::between(7, 1, 3, 1),
+        Cable::between(5, 2, 4, 2),
+        Cable::between(6, 2, 5, 3),
+        Cable::between(7, 2, 6, 3),
     ];
     Rack::from_tables(heap, &nodes, &cables)
 }
 
 // One host on a switch.
 pub fn lone(heap: Global) -> Result<Rack, RackFault> {
-    Rack::from_tables(heap, &[1, 2], &[cable(0, 1, 1, 1)])
+    Rack::from_tables(heap, &[1, 2], &[Cable::between(0, 1, 1, 1)])
 }
 
 // No nodes.

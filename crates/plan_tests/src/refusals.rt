@@ -1,11 +1,12 @@
 // What the check and the builder refuse, on the triangle that forwards clockwise, and what the tables hold then.
 use crate::plans::{build_stored, check_stored};
-use crate::racks::{CLOCKWISE, pair, triangle};
-use crate::tables::{MARK, Tables, Work, check_bytes};
+use crate::racks::{CLOCKWISE, triangle};
+use crate::tables::{MARK, Tables, Work, check_table};
 use builder::fault::BuildFault;
 use checking::fault::CheckFault;
 use rack::rack::Rack;
 use routing::fault::WalkFault;
+use routing::pair::Pair;
 use std::alloc::Global;
 use std::process::Abort;
 use std::test::*;
@@ -13,8 +14,8 @@ use std::test::*;
 // The clockwise forwarding table with another entry at a place.
 fn changed(place: usize, entry: u16) -> [u16; 36] {
     let mut out = CLOCKWISE;
-    if place < 36 {
-        out[place] = entry;
+    if let Some(changed) = out.get_mut(place) {
+        *changed = entry;
     }
     out
 }
@@ -39,8 +40,8 @@ fn check_walk(
         build_stored(heap, rack, forwarding, 2, &mut tables),
         Err(BuildFault::Walk(fault))
     );
-    check_bytes(rt, &tables.lanes, 6912, &[])?;
-    check_bytes(rt, &tables.levels, 36, &[])
+    check_table(rt, &tables.lanes, 6912, &[])?;
+    check_table(rt, &tables.levels, 36, &[])
 }
 
 // One entry for host 2 is wrong, so that the packets of 0 do not arrive there.
@@ -48,7 +49,7 @@ fn check_walk(
 fn paths(rt: HostRuntime) -> Result<(), Fail> {
     let heap = rt.alloc();
     let rack = triangle(heap)?;
-    let pair = pair(0, 2);
+    let pair = Pair::of(0, 2);
     let rows: [(usize, u16, WalkFault); 5] = [
         // 3 has no entry
         (20, 0, WalkFault::NoChannel { pair, hop: 1 }),
@@ -84,8 +85,8 @@ fn lane_counts(rt: HostRuntime) -> Result<(), Fail> {
             build_stored(heap, &rack, &CLOCKWISE, count, &mut tables),
             Err(BuildFault::Lanes)
         );
-        check_bytes(&rt, &tables.lanes, 0, &[])?;
-        check_bytes(&rt, &tables.levels, 0, &[])?;
+        check_table(&rt, &tables.lanes, 0, &[])?;
+        check_table(&rt, &tables.levels, 0, &[])?;
     }
     Ok(())
 }
@@ -124,8 +125,8 @@ fn short_for_the_builder(rt: HostRuntime) -> Result<(), Fail> {
             build_stored(heap, &rack, &CLOCKWISE, 2, &mut tables),
             Err(BuildFault::Tables)
         );
-        check_bytes(&rt, &tables.lanes, 0, &[])?;
-        check_bytes(&rt, &tables.levels, 0, &[])?;
+        check_table(&rt, &tables.lanes, 0, &[])?;
+        check_table(&rt, &tables.levels, 0, &[])?;
     }
     Ok(())
 }
@@ -145,7 +146,9 @@ fn levels(rt: HostRuntime) -> Result<(), Fail> {
         tables.set_level(6, level);
         assert_eq!(rt;
             check_stored(heap, &rack, &CLOCKWISE, &tables, 2, &mut work),
-            Err(CheckFault::Level { pair: pair(1, 0) })
+            Err(CheckFault::Level {
+                pair: Pair::of(1, 0)
+            })
         );
         work.check_untouched(&rt)?;
     }

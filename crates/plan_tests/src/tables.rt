@@ -40,17 +40,17 @@ impl Tables {
         )
     }
 
-    // Puts a byte at a place of the lane table.
+    // Puts a byte at a place of the lane table. It and the next name the table that they change.
     pub fn set_lane(&mut self, place: usize, lane: u8) {
-        if place < self.lanes.len() {
-            self.lanes[place] = lane;
+        if let Some(entry) = self.lanes.get_mut(place) {
+            *entry = lane;
         }
     }
 
     // Puts a byte at a place of the path table.
     pub fn set_level(&mut self, place: usize, level: u8) {
-        if place < self.levels.len() {
-            self.levels[place] = level;
+        if let Some(entry) = self.levels.get_mut(place) {
+            *entry = level;
         }
     }
 }
@@ -72,9 +72,9 @@ impl Work {
         ring: usize,
     ) -> Result<Work, AllocError> {
         Ok(Work {
-            dependencies: vec![in heap; 9u64; dependencies]?,
-            ranks: vec![in heap; 9u16; ranks]?,
-            ring: vec![in heap; 9u16; ring]?,
+            dependencies: vec![in heap; u64::from(MARK); dependencies]?,
+            ranks: vec![in heap; u16::from(MARK); ranks]?,
+            ring: vec![in heap; u16::from(MARK); ring]?,
         })
     }
 
@@ -86,19 +86,15 @@ impl Work {
 
     // Nothing was written.
     pub fn check_untouched(&self, rt: &impl Abort) -> Result<(), Fail> {
-        check_words(rt, &self.dependencies, 0, &[])?;
-        check_numbers(rt, &self.ranks, 0, &[])?;
-        check_numbers(rt, &self.ring, 0, &[])
+        check_table(rt, &self.dependencies, 0, &[])?;
+        check_table(rt, &self.ranks, 0, &[])?;
+        check_table(rt, &self.ring, 0, &[])
     }
 }
 
 // The number at a place; 65535 beyond the table.
 pub fn at(table: &[u16], place: usize) -> u16 {
-    if place < table.len() {
-        table[place]
-    } else {
-        65535
-    }
+    table.get(place).copied().unwrap_or(65535)
 }
 
 // The ring table has these points at its first places, from any of them on, and marks behind.
@@ -106,20 +102,16 @@ pub fn check_ring(rt: &impl Abort, ring: &[u16], points: [u16; 3]) -> Result<(),
     let told = [at(ring, 0), at(ring, 1), at(ring, 2)];
     let [a, b, c] = points;
     assert!(rt; told == [a, b, c] || told == [b, c, a] || told == [c, a, b]);
-    for (k, point) in ring.iter().enumerate() {
-        assert!(rt; k < 3 || *point == 9);
-    }
+    assert!(rt; ring.iter().skip(3).all(|point| *point == u16::from(MARK)));
     Ok(())
 }
 
 // What the entries, each a place and a number, say of a place; 0 where they say nothing.
 fn said(entries: &[(usize, u64)], place: usize) -> u64 {
-    for entry in entries {
-        if entry.0 == place {
-            return entry.1;
-        }
-    }
-    0
+    entries
+        .iter()
+        .find(|entry| entry.0 == place)
+        .map_or(0, |entry| entry.1)
 }
 
 // What a place should hold: what the entries say, and from `needed` on the mark.
@@ -127,45 +119,19 @@ fn wanted(entries: &[(usize, u64)], needed: usize, place: usize) -> u64 {
     if place < needed {
         said(entries, place)
     } else {
-        9
+        u64::from(MARK)
     }
 }
 
 // The table holds what the entries say, zeros elsewhere, and marks from `needed` on.
-pub fn check_bytes(
+pub fn check_table<T: Copy + Into<u64>>(
     rt: &impl Abort,
-    table: &[u8],
+    table: &[T],
     needed: usize,
     entries: &[(usize, u64)],
 ) -> Result<(), Fail> {
-    for (k, byte) in table.iter().enumerate() {
-        assert_eq!(rt; u64::from(*byte), wanted(entries, needed, k));
-    }
-    Ok(())
-}
-
-// The same for numbers.
-pub fn check_numbers(
-    rt: &impl Abort,
-    table: &[u16],
-    needed: usize,
-    entries: &[(usize, u64)],
-) -> Result<(), Fail> {
-    for (k, number) in table.iter().enumerate() {
-        assert_eq!(rt; u64::from(*number), wanted(entries, needed, k));
-    }
-    Ok(())
-}
-
-// The same for words.
-pub fn check_words(
-    rt: &impl Abort,
-    table: &[u64],
-    needed: usize,
-    entries: &[(usize, u64)],
-) -> Result<(), Fail> {
-    for (k, word) in table.iter().enumerate() {
-        assert_eq!(rt; *word, wanted(entries, needed, k));
+    for (place, entry) in table.iter().enumerate() {
+        assert_eq!(rt; (*entry).into(), wanted(entries, needed, place));
     }
     Ok(())
 }

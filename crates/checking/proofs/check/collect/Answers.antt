@@ -1,20 +1,18 @@
 use Rattle.std.proofs.Common.{get_or, ap, ◌∙◌, inr, arith}
 use Rattle.std.proofs.lemmas.Result.{err_from_is_err_and}
-use Rattle.routing.specs.Paths.{routing}
+use Rattle.routing.specs.Plans.{routing_of}
 use Rattle.checking.proofs.Pairing.{collected, zero_at}
 use Rattle.checking.proofs.check.collect.Goals as goal
 
-pub returns-in_err-mark_all : goal.returns-in_err-mark_all
-returns-in_err-mark_all g c =
+pub returns-in_err-mark_all-clause-fault : goal.returns-in_err-mark_all-clause-fault
+returns-in_err-mark_all-clause-fault g c =
     let q = err_from_is_err_and c.from_residual-in_err-mark_all.result c.from_residual-in_err-mark_all.ensures.1 in
-    rw (q.1, q.2) (inr c.in_err-mark_all.ensures.answer)
+    rw (q.1, q.2) (inr c.in_err-mark_all.ensures.fault)
 
-pub returns : goal.returns
-returns g c =
-    let R = routing c.args.plan.now.rack.now (g.S.ForwardingSource.route c.args.plan.now.source.now) (g.M.LaneMap.lanes c.args.plan.now.map.now) in
-    let told = c.in_ok-mark_all.ensures.answer in
+pub returns-clause-collected : goal.returns-clause-collected
+returns-clause-collected g c =
+    let told = c.in_ok-mark_all.ensures in
     let made = c.in_ok-marks.ensures in
-    let value = c.deref_mut.ensures.value in
-    let len = c.deref_mut.ensures.len in
-    collected R c.args.plan.now.levels.now c.args.plan.now.lanes c.deref_mut.result.now c.mark_all.new.marks c.in_ok-marks.marks.items c.in_ok-marks.marks.len
-    told.0 told.1 (λ k. ap (λ xs. get_or xs k 0) (value ∙ made.items_if_clones_equal (λ y e. e)) ∙ zero_at _ k) (omega arith) (omega (arith, made.len))
+    let R = routing_of g.S.ForwardingSource.route g.M.LaneMap.lanes c.args.plan.now in
+    collected R c.args.plan.now.levels.now c.args.plan.now.lanes c.in_ok-marks.marks.items c.mark_all.new.self.marks.items
+    told.fine told.marks (λ k. ap (λ xs. get_or xs k 0) (made.items_if_clones_equal (λ y e. e)) ∙ zero_at _ k) (omega (arith, c.mark_all.new.self.marks.ok.0, rw told.plan at c.mark_all.new.self.room))

@@ -1,6 +1,8 @@
-use Rattle.std.proofs.Common.{◌-◌, ◌≤◌, length}
+use Rattle.std.proofs.Common.{length}
 use Rattle.checking.specs.Marks.{Adds, ListSays}
 use Rattle.checking.proofs.marks.mark_path.Given as goal
 
-abbrev pub invariant-loop-i : goal.invariant-loop-i
-invariant-loop-i l = Adds (ListSays l.rack l.path (l.i - 1)) l.initial.marks l.marks × (l.i - 1 ≤ length l.path - 1)
+abbrev pub invariant-loop-one : goal.invariant-loop-one
+invariant-loop-one l =
+    (goal.iterator-loop-one).can_next l.one-iterator × (goal.iterator-loop-one).is_finite l.one-iterator
+    × Adds (ListSays l.rack l.path (length l.yielded)) l.initial.marks l.marks
