@@ -1,8 +1,7 @@
 -- The law holds after any course. Assumes nothing.
 use Rattle.std.proofs.Common.{◌≡◌, ℕ, ◌+◌, ◌<◌, Bool, true, false, ◌≢◌, ◌↔◌, List, [], ◌∷◌, ◌++◌, length, set, sum_by, filter, sym, refl, ap, ◌∙◌, subst, add-zero, zero-add, arith, length-set, get_or-set_other, get_or-set_same}
-use Rattle.std.specs.List.{AllByRecursion}
-use Rattle.std.proofs.lemmas.List.Elements.{filter-append}
-use Rattle.std.proofs.ByRecursion.{All-weaker}
+use Rattle.std.specs.Prelude.{All}
+use Rattle.std.proofs.lemmas.List.Elements.{filter-append, All-head, All-tail, All-weaker}
 use Rattle.std.proofs.lemmas.List.{append-nil, append_assoc}
 use Rattle.std.proofs.lemmas.List.Sums.{sum_by-append}
 use Rattle.courses.specs.Queues.{to, Rules, Queues, at, push, Admits, Forwards, Takes, Event, refused, admitted, forwarded, taken, Step, refuses, admits, forwards, takes, Course, done, then}
@@ -32,8 +31,8 @@ left_more (taken p) rs = refl
 
 module _ {P : Type 0} (rules : Rules P) (count : ℕ) (path_of : P → List ℕ) (routed : Routed rules count path_of) where
   -- what a first packet finds ahead
-  first_placed : (q : Queues P) (x : ℕ) (p : P) (rest : List P) → Placed rules path_of q → at q x ≡ p ∷ rest → AllByRecursion (OnWay rules path_of x) (p ∷ rest)
-  first_placed q x p rest placed e = subst (AllByRecursion (OnWay rules path_of x)) e (placed x)
+  first_placed : (q : Queues P) (x : ℕ) (p : P) (rest : List P) → Placed rules path_of q → at q x ≡ p ∷ rest → All (OnWay rules path_of x) (p ∷ rest)
+  first_placed q x p rest placed e = subst (All (OnWay rules path_of x)) e (placed x)
 
   -- what answers say of the queues before and after
   record Kept (q : Queues P) (rs : List (Event P)) (q' : Queues P) : Type 0 where
@@ -80,9 +79,9 @@ module _ {P : Type 0} (rules : Rules P) (count : ℕ) (path_of : P → List ℕ)
   forwarded_kept : (q : Queues P) (x : ℕ) (q' : Queues P) → Placed rules path_of q → Forwards rules q x q' → Kept q (forwarded ∷ []) q'
   forwarded_kept q x q' placed m = subst (Kept q (forwarded ∷ [])) (sym m.after) (record {
     sized = length-set q₁ y (at q₁ y ++ (p ∷ [])) ∙ length-set q x rest;
-    placed = each_push (OnWay rules path_of) q₁ y p (each_set (OnWay rules path_of) q x rest placed on.1) (record { first = on.0.first; starts = on.0.starts; some_ahead = rise.on_path });
+    placed = each_push (OnWay rules path_of) q₁ y p (each_set (OnWay rules path_of) q x rest placed behind) (record { first = on.first; starts = on.starts; some_ahead = rise.on_path });
     counted = omega (arith, hops_push path_of q₁ y p there, hops_leave path_of q x p rest m.first, rise.one_less);
-    ordered = λ test xs same. append-nil (waiting test xs q) ∙ by_test test p _ (λ e. in_order test xs (same p on.0.first e on.0.starts) e) (aside test xs);
+    ordered = λ test xs same. append-nil (waiting test xs q) ∙ by_test test p _ (λ e. in_order test xs (same p on.first e on.starts) e) (aside test xs);
   })
     where
       p : P
@@ -97,14 +96,17 @@ module _ {P : Type 0} (rules : Rules P) (count : ℕ) (path_of : P → List ℕ)
       q₁ : Queues P
       q₁ = set q x rest
 
-      on : AllByRecursion (OnWay rules path_of x) (p ∷ rest)
-      on = first_placed q x p rest placed m.first
+      on : OnWay rules path_of x p
+      on = All-head (OnWay rules path_of x) p rest (first_placed q x p rest placed m.first)
 
-      c : Way rules count p on.0.first (path_of p)
-      c = way_of rules count path_of routed p on.0.first on.0.starts
+      behind : All (OnWay rules path_of x) rest
+      behind = All-tail (OnWay rules path_of x) p rest (first_placed q x p rest placed m.first)
+
+      c : Way rules count p on.first (path_of p)
+      c = way_of rules count path_of routed p on.first on.starts
 
       rise : Going count (path_of p) x y
-      rise = going_of c x y on.0.some_ahead m.leads
+      rise = going_of c x y on.some_ahead m.leads
 
       there : y < length q₁
       there = omega (arith, m.there, length-set q x rest)
@@ -119,7 +121,7 @@ module _ {P : Type 0} (rules : Rules P) (count : ℕ) (path_of : P → List ℕ)
           let at_y : at q₂ y ≡ at q y ++ (p ∷ []) = get_or-set_same q₁ y (at q₁ y ++ (p ∷ [])) [] there ∙ ap (λ l. l ++ (p ∷ [])) (get_or-set_other q x y rest [] other) in
           let first : filter test (at q x) ≡ p ∷ filter test (at q₂ x) = ap (filter test) m.first ∙ kept_first test p rest true e ∙ ap (λ l. p ∷ filter test l) (sym at_x) in
           let pushed : filter test (at q₂ y) ≡ filter test (at q y) ++ (p ∷ []) = ap (filter test) at_y ∙ filter-append test (at q y) (p ∷ []) ∙ ap (λ l. filter test (at q y) ++ l) (kept_first test p [] true e) in
-          let row = row_forward (λ z. filter test (at q z)) (λ z. filter test (at q₂ z)) c x y on.0.some_ahead m.leads first pushed
+          let row = row_forward (λ z. filter test (at q z)) (λ z. filter test (at q₂ z)) c x y on.some_ahead m.leads first pushed
           (λ z ne_x ne_y. ap (filter test) (get_or-set_other q₁ y z (at q₁ y ++ (p ∷ [])) [] ne_y ∙ get_or-set_other q x z rest [] ne_x)) in
           subst (λ ys. waiting test ys q ≡ waiting test ys q₂) r (sym row)
 
@@ -130,26 +132,29 @@ module _ {P : Type 0} (rules : Rules P) (count : ℕ) (path_of : P → List ℕ)
   taken_kept : (q : Queues P) (x : ℕ) (p : P) (q' : Queues P) → Placed rules path_of q → Takes rules q x p q' → Kept q (taken p ∷ []) q'
   taken_kept q x p q' placed m = subst (Kept q (taken p ∷ [])) (sym m.after) (record {
     sized = length-set q x rest;
-    placed = each_set (OnWay rules path_of) q x rest placed on.1;
-    counted = omega (arith, hops_leave path_of q x p rest m.first, home_of c x on.0.some_ahead m.ends);
-    ordered = λ test xs same. append-nil (waiting test xs q) ∙ by_test test p _ (λ e. in_order test xs (same p on.0.first e on.0.starts) e) (aside test xs);
+    placed = each_set (OnWay rules path_of) q x rest placed behind;
+    counted = omega (arith, hops_leave path_of q x p rest m.first, home_of c x on.some_ahead m.ends);
+    ordered = λ test xs same. append-nil (waiting test xs q) ∙ by_test test p _ (λ e. in_order test xs (same p on.first e on.starts) e) (aside test xs);
   })
     where
       rest : List P
       rest = m.rest
 
-      on : AllByRecursion (OnWay rules path_of x) (p ∷ rest)
-      on = first_placed q x p rest placed m.first
+      on : OnWay rules path_of x p
+      on = All-head (OnWay rules path_of x) p rest (first_placed q x p rest placed m.first)
 
-      c : Way rules count p on.0.first (path_of p)
-      c = way_of rules count path_of routed p on.0.first on.0.starts
+      behind : All (OnWay rules path_of x) rest
+      behind = All-tail (OnWay rules path_of x) p rest (first_placed q x p rest placed m.first)
+
+      c : Way rules count p on.first (path_of p)
+      c = way_of rules count path_of routed p on.first on.starts
 
       in_order : (test : P → Bool) (xs : List ℕ) → path_of p ≡ xs → test p ≡ true → waiting test xs q ≡ filter test (p ∷ []) ++ waiting test xs (set q x rest)
       in_order test xs r e =
           let q₁ = set q x rest in
           let at_x : at q₁ x ≡ rest = get_or-set_same q x rest [] (some_queue q x p rest m.first) in
           let first : filter test (at q x) ≡ p ∷ filter test (at q₁ x) = ap (filter test) m.first ∙ kept_first test p rest true e ∙ ap (λ l. p ∷ filter test l) (sym at_x) in
-          let row = row_home (λ z. filter test (at q z)) (λ z. filter test (at q₁ z)) c x on.0.some_ahead m.ends first (λ z ne. ap (filter test) (get_or-set_other q x z rest [] ne)) in
+          let row = row_home (λ z. filter test (at q z)) (λ z. filter test (at q₁ z)) c x on.some_ahead m.ends first (λ z ne. ap (filter test) (get_or-set_other q x z rest [] ne)) in
           subst (λ ys. waiting test ys q ≡ filter test (p ∷ []) ++ waiting test ys q₁) r (row ∙ ap (λ l. l ++ waiting test (path_of p) q₁) (sym (kept_first test p [] true e)))
 
       aside : (test : P → Bool) (xs : List ℕ) → test p ≡ false → waiting test xs q ≡ filter test (p ∷ []) ++ waiting test xs (set q x rest)
@@ -189,7 +194,7 @@ module _ {P : Type 0} (rules : Rules P) (count : ℕ) (path_of : P → List ℕ)
   course_kept placed (done {q}) = none_kept q placed
   course_kept placed (then {q} {q'} {q''} {e = a} {es = rs} s r) = let k = step_kept q placed s in more_kept q q' q'' a rs k (course_kept k.placed r)
 
-  some_hops : (q : Queues P) → Placed rules path_of q → (x : ℕ) → AllByRecursion (λ p. 0 < ahead (path_of p) (0 + x)) (at q x)
+  some_hops : (q : Queues P) → Placed rules path_of q → (x : ℕ) → All (λ p. 0 < ahead (path_of p) (0 + x)) (at q x)
   some_hops q placed x = rw zero-add (All-weaker (OnWay rules path_of x) (λ p. 0 < ahead (path_of p) x) (λ p o. o.some_ahead) (at q x) (placed x))
 
   law : (q q' : Queues P) (events : List (Event P)) → length q ≡ count → Placed rules path_of q → Course rules q events q' → Law rules path_of q events q'

@@ -1,7 +1,8 @@
 -- While a packet waits, some forward or take is accepted. Assumes nothing.
 use Rattle.std.proofs.Common.{◌≡◌, ℕ, zero, suc, ◌+◌, ◌<◌, List, [], ◌∷◌, length, set, sym, refl, subst, ⊎_elim, arith}
 use native.Mathlib.Decide.{dec_lt}
-use Rattle.std.specs.List.{AllByRecursion}
+use Rattle.std.specs.Prelude.{All}
+use Rattle.std.proofs.lemmas.List.Elements.{All-head, All-tail}
 use Rattle.ranking.specs.Graphs.{Within, ChainTo}
 use Rattle.ranking.proofs.RingFree.{no_long_chain}
 use Rattle.courses.specs.Queues.{to, Rules, Queues, at, push}
@@ -10,9 +11,9 @@ use Rattle.courses.proofs.Ways.{Way, last, on, way, Going, here_or_on, ahead_cas
 use Rattle.courses.proofs.Sets.{some_queue}
 
 -- the queues of a list, each with the next, are below what its queues are below
-next_below : (count : ℕ) {x y : ℕ} {xs : List ℕ} → AllByRecursion (λ z. z < count) xs → Next x y xs → (x < count) × (y < count)
-next_below count inside here = (inside.0, inside.1.0)
-next_below count inside (later n) = next_below count inside.1 n
+next_below : (count : ℕ) {x y : ℕ} {xs : List ℕ} → All (λ z. z < count) xs → Next x y xs → (x < count) × (y < count)
+next_below count inside here = (inside 0 0 (omega arith), inside 1 0 (omega arith))
+next_below count inside (later {z} {zs} n) = next_below count (All-tail (λ y. y < count) z zs inside) n
 
 some_first : {P : Type 0} (l : List P) → 0 < length l → (p : P) × (rest : List P) × (l ≡ p ∷ rest)
 some_first [] h = absurd (omega arith)
@@ -46,7 +47,7 @@ module _ {P : Type 0} (rules : Rules P) (count : ℕ) (path_of : P → List ℕ)
         (here_or_on way_here x placed_here.some_ahead)
       where
         placed_here : OnWay rules path_of x p
-        placed_here = (subst (AllByRecursion (OnWay rules path_of x)) e (placed x)).0
+        placed_here = All-head (OnWay rules path_of x) p rest (subst (All (OnWay rules path_of x)) e (placed x))
 
         way_here : Way rules count p placed_here.first (path_of p)
         way_here = way_of p placed_here.first placed_here.starts

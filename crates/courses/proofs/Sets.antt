@@ -1,8 +1,7 @@
 -- What a push to a queue, and a packet's leave, change. Assumes nothing.
 use Rattle.std.proofs.Common.{◌≡◌, ℕ, zero, suc, ◌+◌, ◌<◌, Bool, false, cond, List, [], ◌∷◌, ◌++◌, length, set, sum_by, filter, sym, refl, ap, ◌∙◌, add-zero, add-suc, suc-add, zero-add, arith}
-use Rattle.std.specs.List.{AllByRecursion}
-use Rattle.std.proofs.lemmas.List.Elements.{filter-append}
-use Rattle.std.proofs.ByRecursion.{All-push}
+use Rattle.std.specs.Prelude.{All}
+use Rattle.std.proofs.lemmas.List.Elements.{filter-append, All-nil, All-head, All-push}
 use Rattle.std.proofs.lemmas.List.{append-nil}
 use Rattle.std.proofs.lemmas.List.Sums.{sum_by-cons, sum_by_push}
 use Rattle.courses.specs.Queues.{Queues, at, push}
@@ -15,14 +14,14 @@ some_queue (l ∷ q) zero p rest e = omega arith
 some_queue (l ∷ q) (suc x) p rest e = omega (arith, some_queue q x p rest e)
 
 -- what holds of each packet in its queue
-pub each_set : {P : Type 0} (Q : ℕ → P → Type 0) (q : Queues P) (x : ℕ) (l : List P) → ((z : ℕ) → AllByRecursion (Q z) (at q z)) → AllByRecursion (Q x) l → (z : ℕ) → AllByRecursion (Q z) (at (set q x l) z)
-each_set Q [] x l h k z = tt
+pub each_set : {P : Type 0} (Q : ℕ → P → Type 0) (q : Queues P) (x : ℕ) (l : List P) → ((z : ℕ) → All (Q z) (at q z)) → All (Q x) l → (z : ℕ) → All (Q z) (at (set q x l) z)
+each_set Q [] x l h k z = All-nil (Q z)
 each_set Q (m ∷ q) zero l h k zero = k
 each_set Q (m ∷ q) zero l h k (suc z) = h (suc z)
 each_set Q (m ∷ q) (suc x) l h k zero = h zero
 each_set Q (m ∷ q) (suc x) l h k (suc z) = each_set (λ n. Q (suc n)) q x l (λ n. h (suc n)) k z
 
-pub each_push : {P : Type 0} (Q : ℕ → P → Type 0) (q : Queues P) (y : ℕ) (p : P) → ((z : ℕ) → AllByRecursion (Q z) (at q z)) → Q y p → (z : ℕ) → AllByRecursion (Q z) (at (push q y p) z)
+pub each_push : {P : Type 0} (Q : ℕ → P → Type 0) (q : Queues P) (y : ℕ) (p : P) → ((z : ℕ) → All (Q z) (at q z)) → Q y p → (z : ℕ) → All (Q z) (at (push q y p) z)
 each_push Q q y p h k = each_set Q q y (at q y ++ (p ∷ [])) h (All-push (Q y) (at q y) p (h y) k)
 
 -- a test under which a queue's new packets are its old ones changes at no queue
@@ -72,11 +71,11 @@ pub hops_empty : {P : Type 0} (path_of : P → List ℕ) (i : ℕ) (q : Queues P
 hops_empty path_of i [] h = refl
 hops_empty path_of i (l ∷ q) h = omega (arith, ap (sum_by (λ p. ahead (path_of p) i)) (h 0), hops_empty path_of (suc i) q (λ x. h (suc x)))
 
-no_first : {P : Type 0} (path_of : P → List ℕ) (i : ℕ) (l : List P) → AllByRecursion (λ p. 0 < ahead (path_of p) i) l → sum_by (λ p. ahead (path_of p) i) l ≡ 0 → l ≡ []
+no_first : {P : Type 0} (path_of : P → List ℕ) (i : ℕ) (l : List P) → All (λ p. 0 < ahead (path_of p) i) l → sum_by (λ p. ahead (path_of p) i) l ≡ 0 → l ≡ []
 no_first path_of i [] h e = refl
-no_first path_of i (p ∷ l) h e = absurd (omega (arith, h.0, sum_by-cons (λ r. ahead (path_of r) i) p l))
+no_first path_of i (p ∷ l) h e = absurd (omega (arith, All-head (λ r. 0 < ahead (path_of r) i) p l h, sum_by-cons (λ r. ahead (path_of r) i) p l))
 
-pub empty_hops : {P : Type 0} (path_of : P → List ℕ) (i : ℕ) (q : Queues P) → ((x : ℕ) → AllByRecursion (λ p. 0 < ahead (path_of p) (i + x)) (at q x)) → hops_from path_of i q ≡ 0 → (x : ℕ) → at q x ≡ []
+pub empty_hops : {P : Type 0} (path_of : P → List ℕ) (i : ℕ) (q : Queues P) → ((x : ℕ) → All (λ p. 0 < ahead (path_of p) (i + x)) (at q x)) → hops_from path_of i q ≡ 0 → (x : ℕ) → at q x ≡ []
 empty_hops path_of i [] h e x = refl
 empty_hops path_of i (l ∷ q) h e zero = no_first path_of i l (rw add-zero at (h 0)) (omega arith)
 empty_hops path_of i (l ∷ q) h e (suc x) = empty_hops path_of (suc i) q (λ z. rw (suc-add, ← add-suc) (h (suc z))) (omega arith) x

@@ -1,7 +1,8 @@
 -- A path that passes no queue twice. Assumes nothing.
 use Rattle.std.proofs.Common.{◌≡◌, ℕ, suc, ◌<◌, Bool, true, false, cond, eqb, ◌⊎◌, List, [], ◌∷◌, length, sym, refl, ap, ◌∙◌, subst, inl, inr, ⊎_elim, arith, eq-eqb, ne_eqb, eqb-true}
 use borrow.Author.Tests.{eqb-false}
-use Rattle.std.specs.List.{AllByRecursion}
+use Rattle.std.specs.Prelude.{All}
+use Rattle.std.proofs.lemmas.List.Elements.{All-head, All-tail}
 use Rattle.courses.specs.Queues.{Onward, to, home, Rules}
 use Rattle.courses.specs.Law.{Path, ends, goes, ahead, Once, Next, here}
 
@@ -10,9 +11,9 @@ pub data Way {P : Type 0} (rules : Rules P) (count : ℕ) (p : P) : ℕ → List
   last : {x : ℕ} → x < count → rules.onward x p ≡ home → Way rules count p x (x ∷ [])
   on : {x y : ℕ} {ys : List ℕ} → x < count → rules.onward x p ≡ to y → ahead ys x ≡ 0 → Way rules count p y ys → Way rules count p x (x ∷ ys)
 
-pub way : {P : Type 0} {rules : Rules P} {count : ℕ} {p : P} {x : ℕ} {xs : List ℕ} → Path rules p x xs → AllByRecursion (λ y. y < count) xs → Once xs → Way rules count p x xs
-way (ends e) inside once = last inside.0 e
-way (goes e r) inside once = on inside.0 e once.0 (way r inside.1 once.1)
+pub way : {P : Type 0} {rules : Rules P} {count : ℕ} {p : P} {x : ℕ} {xs : List ℕ} → Path rules p x xs → All (λ y. y < count) xs → Once xs → Way rules count p x xs
+way {count} {x} (ends e) inside once = last (All-head (λ y. y < count) x [] inside) e
+way {count} (goes {x} {ys} e r) inside once = on (All-head (λ y. y < count) x ys inside) e once.0 (way r (All-tail (λ y. y < count) x ys inside) once.1)
 
 -- a queue is the first of a path or not
 pub ahead_cases : (x : ℕ) (xs : List ℕ) (z : ℕ) → ((x ≡ z) × (ahead (x ∷ xs) z ≡ suc (length xs))) ⊎ ((x ≡ z → ⊥) × (ahead (x ∷ xs) z ≡ ahead xs z))

@@ -1,6 +1,5 @@
 -- What holds after any course of calls, where every packet has a path and no queues follow one another in a ring. Assumes nothing.
-use Rattle.std.specs.Prelude.{◌≡◌, ℕ, suc, ◌+◌, ◌<◌, Bool, true, cond, ◌↔◌, List, [], ◌∷◌, ◌++◌, length, sum_by, filter, ◌==◌}
-use Rattle.std.specs.List.{AllByRecursion}
+use Rattle.std.specs.Prelude.{All, ◌≡◌, ℕ, suc, ◌+◌, ◌<◌, Bool, true, cond, ◌↔◌, List, [], ◌∷◌, ◌++◌, length, sum_by, filter, ◌==◌}
 use Rattle.ranking.specs.Graphs.{NoRing}
 use Rattle.courses.specs.Queues.{to, home, Rules, Queues, at, Forwards, Takes, Event, refused, admitted, forwarded, taken, Course}
 
@@ -35,7 +34,7 @@ pub record Followed {P : Type 0} (rules : Rules P) (path_of : P → List ℕ) (x
 pub record Routed {P : Type 0} (rules : Rules P) (count : ℕ) (path_of : P → List ℕ) : Type 0 where
   pub roomy : (x : ℕ) → 0 < rules.room x
   pub path : (p : P) (x : ℕ) → rules.start p ≡ to x → Path rules p x (path_of p)
-  pub within : (p : P) (x : ℕ) → rules.start p ≡ to x → AllByRecursion (λ y. y < count) (path_of p)
+  pub within : (p : P) (x : ℕ) → rules.start p ≡ to x → All (λ y. y < count) (path_of p)
   pub once : (p : P) (x : ℕ) → rules.start p ≡ to x → Once (path_of p)
   pub free : NoRing (Followed rules path_of)
 
@@ -93,7 +92,7 @@ pub record OnWay {P : Type 0} (rules : Rules P) (path_of : P → List ℕ) (x : 
   pub some_ahead : 0 < ahead (path_of p) x
 
 abbrev pub Placed : {P : Type 0} → Rules P → (P → List ℕ) → Queues P → Type 0
-Placed rules path_of q = (x : ℕ) → AllByRecursion (OnWay rules path_of x) (at q x)
+Placed rules path_of q = (x : ℕ) → All (OnWay rules path_of x) (at q x)
 
 -- what a course says of the queues that it began and ended with
 pub record Law {P : Type 0} (rules : Rules P) (path_of : P → List ℕ) (q : Queues P) (events : List (Event P)) (q' : Queues P) : Type 0 where

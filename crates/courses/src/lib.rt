@@ -3,9 +3,7 @@
 
 ghost use Rattle.courses.specs.Law.{KeepsLaw};
 
-// Any course of calls keeps the law, for every kind of packet, every assignment of paths without a ring and every room of the queues. The answer says nothing more.
-pub fn courses_keep_law<P>() -> u8
+// Any course of calls keeps the law, for every kind of packet, every assignment of paths without a ring and every room of the queues.
+pub fn courses_keep_law<P>()
     ensures { KeepsLaw P }
-{
-    0
-}
+{}

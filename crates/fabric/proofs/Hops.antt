@@ -1,6 +1,7 @@
 -- The numbers of a path's virtual channels, hop by hop. Assumes nothing.
 use Rattle.std.proofs.Common.{◌≡◌, ℕ, zero, suc, ◌+◌, ◌<◌, ◌≤◌, ◌⊎◌, List, [], ◌∷◌, length, get_or, Some, None, Option, sym, refl, ap, ◌∙◌, inl, inr, ⊎_elim, add-zero, add-suc, suc-add, arith}
-use Rattle.std.specs.List.{AllByRecursion}
+use Rattle.std.specs.Prelude.{All}
+use Rattle.std.proofs.lemmas.List.Elements.{All-nil, All-cons}
 use Rattle.routing.specs.Paths.{Routing, Hop, hop_at}
 use Rattle.routing.proofs.Hops.{some_none, some_same, gone}
 use Rattle.checking.specs.Plans.{virtual}
@@ -13,11 +14,8 @@ next_cases (here {zs}) = inl (refl, (zs, refl))
 next_cases (later n) = inr n
 
 none_next : {x y : ℕ} {zs : List ℕ} → zs ≡ [] → Next x y zs → ⊥
-none_next e here = let z : ◌≡◌ {A = ℕ} 0 1 = cc in omega arith
-none_next e (later n) = let z : ◌≡◌ {A = ℕ} 0 1 = cc in omega arith
-
-no_nil : (y : ℕ) (ys : List ℕ) → [] ≡ y ∷ ys → ⊥
-no_nil y ys e = let z : ◌≡◌ {A = ℕ} 0 1 = cc in omega arith
+none_next e here = cc
+none_next e (later n) = cc
 
 same_first : (x y : ℕ) (xs ys : List ℕ) → x ∷ xs ≡ y ∷ ys → x ≡ y
 same_first x y xs ys e = cc
@@ -30,13 +28,13 @@ module _ (g : Routing) (c v level : ℕ) where
   L i n = hops_on g c v level i n
 
   -- what holds of each hop holds of each number
-  pub all_hops : (Q : ℕ → Type 0) (i n : ℕ) → ((j : ℕ) (h : Hop) → i ≤ j → H j ≡ Some h → Q (virtual h)) → AllByRecursion Q (L i n)
-  all_hops Q i zero f = tt
+  pub all_hops : (Q : ℕ → Type 0) (i n : ℕ) → ((j : ℕ) (h : Hop) → i ≤ j → H j ≡ Some h → Q (virtual h)) → All Q (L i n)
+  all_hops Q i zero f = All-nil Q
   all_hops Q i (suc n) f = go (H i) refl (all_hops Q (suc i) n (λ j k le. f j k (omega arith)))
     where
-      go : (o : Option Hop) → H i ≡ o → AllByRecursion Q (L (suc i) n) → AllByRecursion Q (then_on o (L (suc i) n))
-      go None e rest = tt
-      go (Some h) e rest = (f i h (omega arith) e, rest)
+      go : (o : Option Hop) → H i ≡ o → All Q (L (suc i) n) → All Q (then_on o (L (suc i) n))
+      go None e rest = All-nil Q
+      go (Some h) e rest = All-cons Q (virtual h) (L (suc i) n) (f i h (omega arith) e) rest
 
   -- a number that is that of no hop does not come
   never : (x i n : ℕ) → ((j : ℕ) (h : Hop) → i ≤ j → H j ≡ Some h → virtual h ≡ x → ⊥) → ahead (L i n) x ≡ 0
@@ -58,11 +56,11 @@ module _ (g : Routing) (c v level : ℕ) where
 
   -- the number that comes first is that of hop i
   first_hop : (i n y : ℕ) (ys : List ℕ) → L i n ≡ y ∷ ys → (o : Hop) × (H i ≡ Some o) × (y ≡ virtual o)
-  first_hop i zero y ys e = absurd (no_nil y ys e)
+  first_hop i zero y ys e = absurd cc
   first_hop i (suc n) y ys e = go (H i) refl e
     where
       go : (o : Option Hop) → H i ≡ o → then_on o (L (suc i) n) ≡ y ∷ ys → (o : Hop) × (H i ≡ Some o) × (y ≡ virtual o)
-      go None eo en = absurd (no_nil y ys en)
+      go None eo en = absurd cc
       go (Some h) eo en = (h, eo, sym (same_first (virtual h) y (L (suc i) n) ys en))
 
   -- numbers that follow one another are those of two hops, one behind the other

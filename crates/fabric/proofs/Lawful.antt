@@ -1,7 +1,7 @@
 -- Courses under a sound plan keep the law. Assumes nothing.
 use Rattle.std.proofs.Common.{◌≡◌, ℕ, ◌≤◌, Bool, true, eqb, List, [], ◌∷◌, ◌++◌, map, length, filter, sym, refl, ap, ◌∙◌, subst, arith, eqb-true}
-use lib.ListN.{length-map}
-use Rattle.std.specs.List.{AllByRecursion}
+use Rattle.std.specs.Prelude.{All}
+use Rattle.std.proofs.lemmas.List.Elements.{All-nil}
 use Rattle.std.proofs.lemmas.List.{map-append}
 use Rattle.routing.specs.declared.pair.Pair.{Pair}
 use Rattle.routing.proofs.Tests.{both_fst, both_snd}
@@ -9,12 +9,11 @@ use Rattle.courses.specs.Queues.{to, Queues, Event, Course, done, then}
 use Rattle.courses.specs.Law.{entered, left, waiting, Empty, Routed, Law}
 use Rattle.courses.proofs.Kept.{keeps_law}
 use Rattle.courses.proofs.Sets.{hops_empty}
+use Rattle.fabric.specs.declared.packet.Packet.{Packet}
 use Rattle.fabric.specs.declared.packet.Delivery.{Delivery}
-use Rattle.fabric.specs.declared.queue.Queue.{Queue}
 use Rattle.fabric.specs.declared.call.Call.{Call}
-use Rattle.fabric.specs.declared.call.Answer.{Answer}
-use Rattle.fabric.specs.Packets.{contents, contents_of, delivery}
-use Rattle.fabric.specs.Calls.{Setup, queue_count, NothingWaits}
+use Rattle.fabric.specs.Packets.{delivery}
+use Rattle.fabric.specs.Calls.{Setup, queue_count, NothingWaits, Answer}
 use Rattle.fabric.specs.Courses.{Performs, done as done_here, then as then_here, events, path, path_of, InPlace, AllInPlace, standing, of_pair, pair_tags, waiting_tags, Lawful, LawfulFromEmpty, AcceptedPlan}
 use Rattle.fabric.proofs.Roads.{rules, routed}
 use Rattle.fabric.proofs.Standing.{stand_length, stand_at, stand_none, none_stands}
@@ -28,13 +27,13 @@ no_waiting test [] q none = refl
 no_waiting test (x ∷ xs) q none = let e : waiting test xs q ≡ [] = no_waiting test xs q none in rw (none x, e)
 
 -- what a course ends with
-record Ended (s : Setup) (before : List Queue) (es : List (Event Delivery)) (after : List Queue) : Type 0 where
+record Ended (s : Setup) (before : Queues Packet) (es : List (Event Delivery)) (after : Queues Packet) : Type 0 where
   course : Course (rules s) (standing s before) es (standing s after)
   placed : AllInPlace s after
   long : queue_count s ≤ length after
 
 module _ (s : Setup) (deep : 1 ≤ s.depth) where
-  ended : {before : List Queue} {calls : List Call} {answers : List Answer} {after : List Queue} → AcceptedPlan s before → AllInPlace s before → Performs s before calls answers after → Ended s before (events calls answers) after
+  ended : {before : Queues Packet} {calls : List Call} {answers : List Answer} {after : Queues Packet} → AcceptedPlan s before → AllInPlace s before → Performs s before calls answers after → Ended s before (events calls answers) after
   ended plan placed done_here = record { course = done; placed = placed; long = plan.ready.1.1 }
   ended plan placed (then_here {qs = q} {qs' = q'} {c = c} {a = a} act rest) =
       let m = made s plan.ready.0 plan.sound q plan.ready.1.1 placed c a q' act in
@@ -42,7 +41,7 @@ module _ (s : Setup) (deep : 1 ≤ s.depth) where
       let e = ended plan' m.placed_after rest in
       record { course = then m.step e.course; placed = e.placed; long = e.long }
 
-  module _ (before : List Queue) (calls : List Call) (answers : List Answer) (after : List Queue) (performs : Performs s before calls answers after) (plan : AcceptedPlan s before) where
+  module _ (before : Queues Packet) (calls : List Call) (answers : List Answer) (after : Queues Packet) (performs : Performs s before calls answers after) (plan : AcceptedPlan s before) where
     abbrev es : List (Event Delivery)
     es = events calls answers
 
@@ -53,24 +52,18 @@ module _ (s : Setup) (deep : 1 ≤ s.depth) where
       e : Ended s before es after
       e = ended plan placed performs
 
-      long_before : n ≤ length (contents_of before)
-      long_before = omega (arith, plan.ready.1.1, length-map before contents)
-
-      long_after : n ≤ length (contents_of after)
-      long_after = omega (arith, e.long, length-map after contents)
-
       law : Law (rules s) (path_of s) (standing s before) es (standing s after)
       law =
           let r = routed s plan.ready.0 deep plan.sound in
-          keeps_law Delivery (rules s) (path_of s) (standing s before) (standing s after) es (subst (λ m. Routed (rules s) m (path_of s)) (sym (stand_length n (contents_of before) long_before)) r)
+          keeps_law Delivery (rules s) (path_of s) (standing s before) (standing s after) es (subst (λ m. Routed (rules s) m (path_of s)) (sym (stand_length n before plan.ready.1.1)) r)
           (stand_placed s plan.ready.0 plan.sound before plan.ready.1.1 placed) e.course
 
       -- nothing waits, as the queues say and as it is told
       none_told : NothingWaits s.routes.rack after → Empty (standing s after)
-      none_told none = stand_none n (contents_of after) long_after none
+      none_told none = stand_none n after e.long none
 
       told_none : Empty (standing s after) → NothingWaits s.routes.rack after
-      told_none none = none_stands n (contents_of after) long_after none
+      told_none none = none_stands n after e.long none
 
       in_order : (p : Pair) → waiting_tags s p before ++ pair_tags p (entered es) ≡ pair_tags p (left es) ++ waiting_tags s p after
       in_order p =
@@ -89,7 +82,7 @@ module _ (s : Setup) (deep : 1 ≤ s.depth) where
         moving = λ w.
             let x = w.0 in
             stirs s plan.ready.0 plan.sound after e.long e.placed (plan.ready.0, (plan.ready.1.0, e.long))
-            (law.alive x (delivery w.1) (map delivery w.2) (stand_at n (contents_of after) long_after x w.3 ∙ ap (map delivery) w.4));
+            (law.alive x (delivery w.1) (map delivery w.2) (stand_at n after e.long x w.3 ∙ ap (map delivery) w.4));
         counted = law.counted;
         settled = (λ none. law.settled.0 (none_told none), λ zero_ahead. told_none (law.settled.1 zero_ahead));
         drained = λ no_more. (λ none. (law.drained no_more).0 (none_told none), λ all_moved. told_none ((law.drained no_more).1 all_moved));
@@ -98,10 +91,9 @@ module _ (s : Setup) (deep : 1 ≤ s.depth) where
 
     pub from_empty : NothingWaits s.routes.rack before → LawfulFromEmpty s es after
     from_empty none =
-        let placed : AllInPlace s before = λ x l. subst (AllByRecursion (InPlace s x)) (sym (none x l)) tt in
+        let placed : AllInPlace s before = λ x l. subst (All (InPlace s x)) (sym (none x l)) (All-nil (InPlace s x)) in
         let w = lawful placed in
-        let long : n ≤ length (contents_of before) = omega (arith, plan.ready.1.1, length-map before contents) in
-        let empty = stand_none n (contents_of before) long none in
+        let empty = stand_none n before plan.ready.1.1 none in
         record {
           placed = w.placed;
           moving = w.moving;

@@ -1,4 +1,4 @@
-mod Entries
+mod Same
 mod Calls
 mod Hops
 mod Roads

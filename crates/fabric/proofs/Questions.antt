@@ -1,24 +1,24 @@
 -- The questions that a call asks, in their order: the first that is not answered yes is the refusal. Assumes nothing.
-use Rattle.std.proofs.Common.{◌≡◌, ℕ, zero, suc, ◌+◌, ◌*◌, ◌/◌, ◌<◌, ◌≤◌, Bool, true, false, List, [], ◌∷◌, length, Some, Err, sym, refl, ap, ◌∙◌, subst, ⊎_elim, arith}
+use Rattle.std.proofs.Common.{◌≡◌, ℕ, zero, suc, ◌+◌, ◌*◌, ◌/◌, ◌<◌, ◌≤◌, true, List, ◌∷◌, length, Some, Err, sym, refl, ap, ◌∙◌, subst, ⊎_elim, arith}
 use Rattle.std.proofs.lemmas.Bool.{cases_eq, cases_lt}
 use Rattle.rack.specs.Racks.{head, Leaving}
 use Rattle.rack.proofs.Facts.{one_out}
 use Rattle.routing.specs.declared.pair.Pair.{Pair}
 use Rattle.routing.specs.declared.fault.WalkFault.{WalkFault}
-use Rattle.routing.specs.declared.fault.WalkFault.TheVariants.{NoPair as NoSuchPair, Endless, NoChannel, Elsewhere, Lane, OtherHost, Memory}
+use Rattle.routing.specs.declared.fault.WalkFault.TheVariants.{NoChannel, Elsewhere, Lane}
 use Rattle.routing.specs.Sources.{enters_switch}
 use Rattle.routing.specs.Turns.{turns}
 use Rattle.routing.specs.Paths.{Hop}
 use Rattle.routing.specs.Walks.{Advances}
 use Rattle.routing.proofs.Hops.{some_none, some_same}
+use Rattle.routing.proofs.Rounds.{true_false}
 use Rattle.checking.specs.Starts.{Ranged}
 use Rattle.checking.specs.Plans.{virtual}
-use Rattle.courses.specs.Queues.{at}
+use Rattle.courses.specs.Queues.{Queues, at}
 use Rattle.fabric.specs.declared.packet.Packet.{Packet}
-use Rattle.fabric.specs.declared.queue.Queue.{Queue}
 use Rattle.fabric.specs.declared.fault.FabricFault.{FabricFault}
-use Rattle.fabric.specs.declared.fault.FabricFault.TheVariants.{Lanes, Depth, Tables, NoPair, Level, NoQueue, Empty, Misplaced, Walk, Full}
-use Rattle.fabric.specs.Packets.{contents_of, next_hop}
+use Rattle.fabric.specs.declared.fault.FabricFault.TheVariants.{Lanes, Tables, NoPair, Level, NoQueue, Empty, Misplaced, Walk, Full}
+use Rattle.fabric.specs.Packets.{next_hop}
 use Rattle.fabric.specs.Calls.{Setup, queue_count, EnoughFor, level_for, PairHere, Admits, AdmitRefused, First, GoesOn, CanForward, ForwardRefused, CanTake, TakeRefused}
 
 -- the questions before k are answered yes, and k is not
@@ -41,23 +41,17 @@ module _ (A : ℕ → Type 0) where
   pub one_more : (k : ℕ) → ((j : ℕ) → j < k → A j) → A k → (j : ℕ) → j < suc k → A j
   one_more k h a j l = ⊎_elim (λ (e : j ≡ k). subst A (sym e) a) (λ (ne : j ≡ k → ⊥). h j (omega arith)) (cases_eq j k)
 
-no_cons : (p : Packet) (ps : List Packet) → [] ≡ p ∷ ps → ⊥
-no_cons p ps e = let z : ◌≡◌ {A = ℕ} 0 1 = cc in omega arith
-
 pub same_head : (l : List Packet) (p o : Packet) (ps os : List Packet) → l ≡ p ∷ ps → l ≡ o ∷ os → (p ≡ o) × (ps ≡ os)
 same_head l p o ps os a b = (cc, cc)
 
-off : (b : Bool) → b ≡ true → b ≡ false → ⊥
-off b e f = let z : ◌≡◌ {A = ℕ} 0 1 = cc in omega arith
-
-module _ (s : Setup) (qs : List Queue) where
+module _ (s : Setup) (qs : Queues Packet) where
   -- of an admit
   abbrev pub AdmitAsks : Pair → ℕ → Type 0
   AdmitAsks p zero = Ranged s.lanes
   AdmitAsks p (suc zero) = EnoughFor s qs
   AdmitAsks p (suc (suc zero)) = PairHere s p
   AdmitAsks p (suc (suc (suc zero))) = level_for s p ≤ 15
-  AdmitAsks p (suc (suc (suc (suc k)))) = (c : ℕ) → Leaving s.routes.rack p.sender.0 c → length (at (contents_of qs) (8 * c)) < s.depth
+  AdmitAsks p (suc (suc (suc (suc k)))) = (c : ℕ) → Leaving s.routes.rack p.sender.0 c → length (at qs (8 * c)) < s.depth
 
   abbrev pub admit_fault : Pair → ℕ → FabricFault
   admit_fault p zero = Lanes
@@ -71,7 +65,6 @@ module _ (s : Setup) (qs : List Queue) where
 
   pub admit_stops : (p : Pair) (f : FabricFault) → AdmitRefused s qs p f → (k : ℕ) × (f ≡ admit_fault p k) × Stops (AdmitAsks p) k
   admit_stops p Lanes h = (0, refl, record { passed = none_yet (AdmitAsks p); not = h })
-  admit_stops p Depth h = elim h [ ]
   admit_stops p Tables h = (1, refl, record { passed = one_more (AdmitAsks p) 0 (none_yet (AdmitAsks p)) h.0; not = h.1 })
   admit_stops p (NoPair q) h =
       let A = AdmitAsks p in
@@ -79,10 +72,6 @@ module _ (s : Setup) (qs : List Queue) where
   admit_stops p (Level q) h =
       let A = AdmitAsks p in
       (3, ap Level h.1.0, record { passed = one_more A 2 (one_more A 1 (one_more A 0 (none_yet A) h.0.0) h.0.1) h.1.1; not = λ l. omega (arith, h.1.2) })
-  admit_stops p NoQueue h = elim h [ ]
-  admit_stops p Empty h = elim h [ ]
-  admit_stops p (Misplaced q i) h = elim h [ ]
-  admit_stops p (Walk w) h = elim h [ ]
   admit_stops p (Full q i) h =
       let A = AdmitAsks p in (
         4,
@@ -92,17 +81,18 @@ module _ (s : Setup) (qs : List Queue) where
           not = λ fits. omega (arith, fits h.5.0 h.5.1, h.5.2);
         },
       )
+  admit_stops p _ h = elim h [ ]
 
-  pub admit_passes : (p : Pair) (t : ℕ) (after : List Queue) → Admits s qs p t after → (k : ℕ) → AdmitAsks p k
+  pub admit_passes : (p : Pair) (t : ℕ) (after : Queues Packet) → Admits s qs p t after → (k : ℕ) → AdmitAsks p k
   admit_passes p t after m zero = m.ready.0
   admit_passes p t after m (suc zero) = m.ready.1
   admit_passes p t after m (suc (suc zero)) = m.pair
-  admit_passes p t after m (suc (suc (suc zero))) = omega (arith, m.its_level, m.packet.level.below)
-  admit_passes p t after m (suc (suc (suc (suc k)))) = λ c l. subst (λ o. length (at (contents_of qs) (8 * o)) < s.depth) (only_out p.sender.0 m.out c m.pair.0 m.leaves l) m.fits
+  admit_passes p t after m (suc (suc (suc zero))) = omega (arith, m.its_level, m.packet.level.within)
+  admit_passes p t after m (suc (suc (suc (suc k)))) = λ c l. subst (λ o. length (at qs (8 * o)) < s.depth) (only_out p.sender.0 m.out c m.pair.0 m.leaves l) m.fits
 
   -- of a forward; what is asked of the first packet is asked once there is one
   abbrev pub Heads : ℕ → Packet → Type 0
-  Heads x p = (rest : List Packet) × (at (contents_of qs) x ≡ p ∷ rest)
+  Heads x p = (rest : List Packet) × (at qs x ≡ p ∷ rest)
 
   abbrev pub Named : ℕ → Packet → ℕ → Type 0
   Named x p d = s.routes.next (x / 8) p.pair.receiver.0 ≡ Some d
@@ -119,7 +109,7 @@ module _ (s : Setup) (qs : List Queue) where
   ForwardAsks x (suc (suc (suc (suc (suc zero))))) = (p : Packet) → Heads x p → (d : ℕ) × Named x p d
   ForwardAsks x (suc (suc (suc (suc (suc (suc zero)))))) = (p : Packet) (d : ℕ) → Heads x p → Named x p d → turns s.routes.rack (x / 8) d ≡ true
   ForwardAsks x (suc (suc (suc (suc (suc (suc (suc zero))))))) = (p : Packet) (d : ℕ) → Heads x p → Named x p d → lane_to x p d < s.lanes
-  ForwardAsks x (suc (suc (suc (suc (suc (suc (suc (suc k)))))))) = (p : Packet) (d : ℕ) → Heads x p → Named x p d → length (at (contents_of qs) (8 * d + lane_to x p d)) < s.depth
+  ForwardAsks x (suc (suc (suc (suc (suc (suc (suc (suc k)))))))) = (p : Packet) (d : ℕ) → Heads x p → Named x p d → length (at qs (8 * d + lane_to x p d)) < s.depth
 
   abbrev pub forward_fault : Packet → ℕ → FabricFault
   forward_fault p zero = Lanes
@@ -138,7 +128,7 @@ module _ (s : Setup) (qs : List Queue) where
     of_first : {k : ℕ} {f : FabricFault} → 4 ≤ k → (p : Packet) → Heads x p → f ≡ forward_fault p k → Tells x k f
 
   same_heads : (x : ℕ) (p o : Packet) → Heads x p → Heads x o → p ≡ o
-  same_heads x p o a b = (same_head (at (contents_of qs) x) p o a.0 b.0 a.1 b.1).0
+  same_heads x p o a b = (same_head (at qs x) p o a.0 b.0 a.1 b.1).0
 
   pub one_told : (x k : ℕ) (f h : FabricFault) (p : Packet) → Tells x k f → Tells x k h → f ≡ h
   one_told x k f h p (plain l e) (plain m d) = e p ∙ sym (d p)
@@ -187,8 +177,6 @@ module _ (s : Setup) (qs : List Queue) where
     Stopped f = (k : ℕ) × Tells x k f × Stops F k
 
     walk_stops : (p : Packet) (rest : List Packet) (w : WalkFault) → First s qs x p rest → enters_switch s.routes.rack (x / 8) ≡ true → Advances s.routes s.lanes p.pair p.level.number (x / 8) (next_hop p.hop) (Err w) → Stopped (Walk w)
-    walk_stops p rest (NoSuchPair q) first sw h = elim h [ ]
-    walk_stops p rest (Endless q i) first sw h = elim h [ ]
     walk_stops p rest (NoChannel q i) first sw h = (
       5,
       of_first (omega arith) p (heads p rest first) (λ t. Walk (NoChannel (h.0 t) (h.1 t))),
@@ -198,7 +186,7 @@ module _ (s : Setup) (qs : List Queue) where
         let d = h.2.0 in (
           6,
           of_first (omega arith) p (heads p rest first) (λ t. Walk (Elsewhere (h.0 t) (h.1 t))),
-          record { passed = up_to_named p rest d first sw h.2.1; not = λ there. off _ (there p d (heads p rest first) h.2.1) h.2.2 },
+          record { passed = up_to_named p rest d first sw h.2.1; not = λ there. true_false _ (there p d (heads p rest first) h.2.1) h.2.2 },
         )
     walk_stops p rest (Lane q i) first sw h =
         let d = h.2.0 in (
@@ -206,20 +194,16 @@ module _ (s : Setup) (qs : List Queue) where
           of_first (omega arith) p (heads p rest first) (λ t. Walk (Lane (h.0 t) (h.1 t))),
           record { passed = up_to_turn p rest d first sw h.2.1 h.2.2; not = λ low. omega (arith, low p d (heads p rest first) h.2.1, h.2.3) },
         )
-    walk_stops p rest (OtherHost q i) first sw h = elim h [ ]
-    walk_stops p rest Memory first sw h = elim h [ ]
+    walk_stops p rest _ first sw h = elim h [ ]
 
     pub forward_stops : (f : FabricFault) → ForwardRefused s qs x f → Stopped f
     forward_stops Lanes h = (0, plain (omega arith) (λ p. refl), record { passed = none_yet F; not = h })
-    forward_stops Depth h = elim h [ ]
     forward_stops Tables h = (1, plain (omega arith) (λ p. refl), record { passed = one_more F 0 (none_yet F) h.0; not = h.1 })
-    forward_stops (NoPair q) h = elim h [ ]
-    forward_stops (Level q) h = elim h [ ]
     forward_stops NoQueue h = (2, plain (omega arith) (λ p. refl), record { passed = one_more F 1 (one_more F 0 (none_yet F) h.0.0) h.0.1; not = λ l. omega (arith, h.1) })
     forward_stops Empty h =
-        (3, plain (omega arith) (λ p. refl), record { passed = one_more F 2 (one_more F 1 (one_more F 0 (none_yet F) h.0.0) h.0.1) h.1; not = λ t. no_cons t.0 t.1.0 (sym h.2 ∙ t.1.1) })
+        (3, plain (omega arith) (λ p. refl), record { passed = one_more F 2 (one_more F 1 (one_more F 0 (none_yet F) h.0.0) h.0.1) h.1; not = λ t. cc (h.2, t.1.1) })
     forward_stops (Misplaced q i) h =
-        (4, of_first (omega arith) h.0 (heads h.0 h.1 h.2) (λ t. Misplaced (h.3.0 t) (h.3.1 t)), record { passed = up_to_first h.0 h.1 h.2; not = λ sw. off _ sw h.3.2 })
+        (4, of_first (omega arith) h.0 (heads h.0 h.1 h.2) (λ t. Misplaced (h.3.0 t) (h.3.1 t)), record { passed = up_to_first h.0 h.1 h.2; not = λ sw. true_false _ sw h.3.2 })
     forward_stops (Walk w) h = walk_stops h.0 h.1 w h.2 h.3.0 h.3.1
     forward_stops (Full q i) h =
         let p = h.0 in
@@ -229,28 +213,22 @@ module _ (s : Setup) (qs : List Queue) where
           of_first (omega arith) p (heads p h.1 first) (λ t. Full (h.5 t) (h.6 t)),
           record {
             passed = up_to_lane p h.1 k first h.4;
-            not = λ fits. omega (arith, fits p k.channel (heads p h.1 first) h.4.1, h.7, ap (λ y. length (at (contents_of qs) y)) (same_queue p k h.4));
+            not = λ fits. omega (arith, fits p k.channel (heads p h.1 first) h.4.1, h.7, ap (λ y. length (at qs y)) (same_queue p k h.4));
           },
         )
+    forward_stops _ h = elim h [ ]
 
     -- where the first packet can go on, nothing stops it
     pub forward_passes : (p : Packet) (rest : List Packet) (h : Hop) → CanForward s qs x p rest h → (k : ℕ) → Stops F k → ⊥
     forward_passes p rest h can k stop =
         let all = up_to_lane p rest h can.first can.goes in
-        let room = for_named (λ o e. length (at (contents_of qs) (8 * e + lane_to x o e)) < s.depth) p h.channel (heads p rest can.first) can.goes.1
-        (omega (arith, can.fits, ap (λ y. length (at (contents_of qs) y)) (same_queue p h can.goes))) in
+        let room = for_named (λ o e. length (at qs (8 * e + lane_to x o e)) < s.depth) p h.channel (heads p rest can.first) can.goes.1
+        (omega (arith, can.fits, ap (λ y. length (at qs y)) (same_queue p h can.goes))) in
         ⊎_elim (λ (l : k < 8). stop.not (all k l)) (λ (l : 8 ≤ k). stop.not (last_ask k l room)) (cases_lt k 8)
       where
         last_ask : (k : ℕ) → 8 ≤ k → F 8 → F k
-        last_ask zero l r = absurd (omega arith)
-        last_ask (suc zero) l r = absurd (omega arith)
-        last_ask (suc (suc zero)) l r = absurd (omega arith)
-        last_ask (suc (suc (suc zero))) l r = absurd (omega arith)
-        last_ask (suc (suc (suc (suc zero)))) l r = absurd (omega arith)
-        last_ask (suc (suc (suc (suc (suc zero))))) l r = absurd (omega arith)
-        last_ask (suc (suc (suc (suc (suc (suc zero)))))) l r = absurd (omega arith)
-        last_ask (suc (suc (suc (suc (suc (suc (suc zero))))))) l r = absurd (omega arith)
         last_ask (suc (suc (suc (suc (suc (suc (suc (suc k)))))))) l r = r
+        last_ask _ l r = absurd (omega arith)
 
     -- of a take
     abbrev pub TakeAsks : ℕ → Type 0
@@ -265,18 +243,14 @@ module _ (s : Setup) (qs : List Queue) where
 
     pub take_stops : (f : FabricFault) → TakeRefused s qs x f → (k : ℕ) × Tells x k f × Stops TakeAsks k
     take_stops Lanes h = (0, plain (omega arith) (λ p. refl), record { passed = none_yet TakeAsks; not = h })
-    take_stops Depth h = elim h [ ]
     take_stops Tables h = (1, plain (omega arith) (λ p. refl), record { passed = one_more TakeAsks 0 (none_yet TakeAsks) h.0; not = h.1 })
-    take_stops (NoPair q) h = elim h [ ]
-    take_stops (Level q) h = elim h [ ]
     take_stops NoQueue h =
         (2, plain (omega arith) (λ p. refl), record { passed = one_more TakeAsks 1 (one_more TakeAsks 0 (none_yet TakeAsks) h.0.0) h.0.1; not = λ l. omega (arith, h.1) })
     take_stops Empty h =
-        (3, plain (omega arith) (λ p. refl), record { passed = one_more TakeAsks 2 (one_more TakeAsks 1 (one_more TakeAsks 0 (none_yet TakeAsks) h.0.0) h.0.1) h.1; not = λ t. no_cons t.0 t.1.0 (sym h.2 ∙ t.1.1) })
+        (3, plain (omega arith) (λ p. refl), record { passed = one_more TakeAsks 2 (one_more TakeAsks 1 (one_more TakeAsks 0 (none_yet TakeAsks) h.0.0) h.0.1) h.1; not = λ t. cc (h.2, t.1.1) })
     take_stops (Misplaced q i) h =
         (4, of_first (omega arith) h.0 (heads h.0 h.1 h.2) (λ t. Misplaced (h.3 t) (h.4 t)), record { passed = up_to_heads h.0 h.1 h.2; not = λ at_home. h.5 (at_home h.0 (heads h.0 h.1 h.2)) })
-    take_stops (Walk w) h = elim h [ ]
-    take_stops (Full q i) h = elim h [ ]
+    take_stops _ h = elim h [ ]
 
     pub take_passes : (p : Packet) (rest : List Packet) → CanTake s qs x p rest → (k : ℕ) → Stops TakeAsks k → ⊥
     take_passes p rest can k stop =
@@ -285,8 +259,5 @@ module _ (s : Setup) (qs : List Queue) where
         (cases_lt k 4)
       where
         last_ask : (k : ℕ) → 4 ≤ k → TakeAsks 4 → TakeAsks k
-        last_ask zero l r = absurd (omega arith)
-        last_ask (suc zero) l r = absurd (omega arith)
-        last_ask (suc (suc zero)) l r = absurd (omega arith)
-        last_ask (suc (suc (suc zero))) l r = absurd (omega arith)
         last_ask (suc (suc (suc (suc k)))) l r = r
+        last_ask _ l r = absurd (omega arith)

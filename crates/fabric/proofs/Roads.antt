@@ -1,7 +1,7 @@
 -- The paths of a sound plan, as the law of courses wants them. Assumes nothing.
 use Rattle.std.proofs.Common.{◌≡◌, ℕ, zero, suc, ◌+◌, ◌-◌, ◌*◌, ◌/◌, ◌%◌, ◌<◌, ◌≤◌, Bool, true, false, cond, not, ◌&&◌, eqb, [], ◌∷◌, get_or, Some, None, Option, sym, refl, ap, ◌∙◌, subst, ⊎_elim, arith, eq-eqb, ne_eqb, eqb-true}
 use borrow.Author.Tests.{eqb-false}
-use Rattle.std.specs.List.{AllByRecursion}
+use Rattle.std.specs.Prelude.{All}
 use Rattle.std.proofs.lemmas.Bool.{cases_eq, cases_lt}
 use Rattle.rack.specs.declared.rack.Rack.{Rack}
 use Rattle.rack.specs.Racks.{nodes_of, channel_count, head, tail, Host, Leaving}
@@ -67,12 +67,6 @@ not_true : (b : Bool) → not b ≡ true → b ≡ false
 not_true true e = sym e
 not_true false e = refl
 
-no_to : (x : ℕ) → nowhere ≡ to x → ⊥
-no_to x e = let z : ◌≡◌ {A = ℕ} 0 1 = cc in omega arith
-
-no_home : (x : ℕ) → home ≡ to x → ⊥
-no_home x e = let z : ◌≡◌ {A = ℕ} 0 1 = cc in omega arith
-
 pub same_to : (x y : ℕ) → to x ≡ to y → x ≡ y
 same_to x y e = cc
 
@@ -95,7 +89,7 @@ module _ (s : Setup) (d : Delivery) where
           let a = both_fst (is_end r u) (is_end r v && not (eqb u v)) t in
           let b = both_snd (is_end r u) (is_end r v && not (eqb u v)) t in
           (eqb-true (get_or (nodes_of r) u 0) 1 a, eqb-true (get_or (nodes_of r) v 0) 1 (both_fst (is_end r v) (not (eqb u v)) b), eqb-false u v (not_true (eqb u v) (both_snd (is_end r v) (not (eqb u v)) b)))
-      go false t q = absurd (no_to x q)
+      go false t q = absurd cc
 
   pub pair_starts : (c : ℕ) → PairHere s d.pair → Leaving s.routes.rack d.pair.sender.0 c → starts s d ≡ to (8 * c)
   pair_starts c pair leaving =
@@ -235,8 +229,8 @@ module _ (s : Setup) (ranged : Ranged s.lanes) (sound : Sound s.routes s.levels 
         let first : virtual (hop out 0) ≡ 8 * out = omega arith in
         subst (λ x. Path (rules s) d x (path_of s d)) first (subst (Path (rules s) d (virtual (hop out 0))) (sym q) (walks l.0 l.1 l.2 l.0 0 (channel_count r) (hop out 0) (omega arith) l.2.short refl))
 
-  pub its_inside : AllByRecursion (λ x. x < queue_count s) (path s p)
-  its_inside = subst (AllByRecursion (λ x. x < queue_count s)) (sym path_is) (all_hops g out v level (λ x. x < queue_count s) 0 (channel_count r) (λ j h le e. omega (arith, below j h e, narrow j h e)))
+  pub its_inside : All (λ x. x < queue_count s) (path s p)
+  its_inside = subst (All (λ x. x < queue_count s)) (sym path_is) (all_hops g out v level (λ x. x < queue_count s) 0 (channel_count r) (λ j h le e. omega (arith, below j h e, narrow j h e)))
 
   pub its_once : Once (path s p)
   its_once = let l = last_hop in subst Once (sym path_is) (once g out v level 0 (channel_count r) (λ j k h o le. apart l.0 l.1 l.2 j k h o))

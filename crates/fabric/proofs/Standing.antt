@@ -2,9 +2,9 @@
 use Rattle.std.proofs.Common.{◌≡◌, ℕ, zero, suc, ◌<◌, ◌≤◌, List, [], ◌∷◌, ◌++◌, map, length, get_or, take, set, sym, refl, ap, ◌∙◌, ⊎_elim, arith, length-take, get_or-take}
 use lib.ListN.{length-map}
 use lib.Seq.{map-set, take-set-lt}
-use Rattle.std.specs.List.{AllByRecursion}
+use Rattle.std.specs.Prelude.{All}
 use Rattle.std.proofs.lemmas.List.{get_or-map, get_or_past, map-append}
-use Rattle.std.proofs.ByRecursion.{All-weaker}
+use Rattle.std.proofs.lemmas.List.Elements.{All-weaker}
 use Rattle.std.proofs.lemmas.Bool.{cases_lt}
 use Rattle.courses.specs.Queues.{Queues, at, push}
 use Rattle.courses.specs.Law.{ahead}
@@ -15,12 +15,12 @@ use Rattle.fabric.specs.Packets.{delivery}
 
 -- a list of which the told form is not empty
 pub told_cons : (l : List Packet) (d : Delivery) (ds : List Delivery) → map delivery l ≡ d ∷ ds → (p : Packet) × (ps : List Packet) × (l ≡ p ∷ ps) × (delivery p ≡ d)
-told_cons [] d ds e = let z : ◌≡◌ {A = ℕ} 0 1 = cc in absurd (omega arith)
+told_cons [] d ds e = absurd cc
 told_cons (p ∷ ps) d ds e = (p, ps, refl, cc)
 
 pub told_none : (l : List Packet) → map delivery l ≡ [] → l ≡ []
 told_none [] e = refl
-told_none (p ∷ ps) e = let z : ◌≡◌ {A = ℕ} 0 1 = cc in absurd (omega arith)
+told_none (p ∷ ps) e = absurd cc
 
 -- a queue of a path has hops ahead
 pub some_at : (xs : List ℕ) (j x : ℕ) → j < length xs → get_or xs j 0 ≡ x → 0 < ahead xs x
@@ -29,20 +29,16 @@ some_at (z ∷ xs) zero x l e = omega (arith, ap (ahead (z ∷ xs)) (sym e), ahe
 some_at (z ∷ xs) (suc j) x l e =
     ⊎_elim (λ t. omega (arith, t.1)) (λ t. omega (arith, t.1, some_at xs j x (omega arith) e)) (ahead_cases z xs x)
 
-pub all_any : {X : Type 0} (Q : X → Type 0) → ((x : X) → Q x) → (xs : List X) → AllByRecursion Q xs
-all_any Q f [] = tt
-all_any Q f (x ∷ xs) = (f x, all_any Q f xs)
-
 -- what holds in the first n queues, said of every queue
 module _ (n : ℕ) (I : ℕ → Packet → Type 0) (q : Queues Packet) where
-  pub bounded : ((z : ℕ) → z < n → AllByRecursion (I z) (at q z)) → (z : ℕ) → AllByRecursion (λ p. z < n → I z p) (at q z)
+  pub bounded : ((z : ℕ) → z < n → All (I z) (at q z)) → (z : ℕ) → All (λ p. z < n → I z p) (at q z)
   bounded h z =
       ⊎_elim
       (λ (l : z < n). All-weaker (I z) (λ p. z < n → I z p) (λ p i m. i) (at q z) (h z l))
-      (λ (l : n ≤ z). all_any (λ p. z < n → I z p) (λ p m. absurd (omega arith)) (at q z))
+      (λ (l : n ≤ z). λ k d lt m. absurd (omega arith))
       (cases_lt z n)
 
-  pub unbounded : ((z : ℕ) → AllByRecursion (λ p. z < n → I z p) (at q z)) → (z : ℕ) → z < n → AllByRecursion (I z) (at q z)
+  pub unbounded : ((z : ℕ) → All (λ p. z < n → I z p) (at q z)) → (z : ℕ) → z < n → All (I z) (at q z)
   unbounded h z l = All-weaker (λ p. z < n → I z p) (I z) (λ p i. i l) (at q z) (h z)
 
 -- the first n queues, as they are told

@@ -1,8 +1,8 @@
 -- Each call on the fabric under a sound plan is a step of the law of courses, and keeps every packet in its place. Assumes nothing.
-use Rattle.std.proofs.Common.{◌≡◌, ℕ, suc, ◌+◌, ◌*◌, ◌/◌, ◌%◌, ◌<◌, ◌≤◌, Bool, true, false, cond, eqb, List, [], ◌∷◌, ◌++◌, map, length, get_or, set, Some, None, Option, sym, refl, ap, ◌∙◌, subst, inl, inr, ⊎_elim, zero-add, arith, length-set, eqb-true}
+use Rattle.std.proofs.Common.{◌≡◌, ℕ, suc, ◌+◌, ◌*◌, ◌/◌, ◌%◌, ◌<◌, ◌≤◌, Bool, true, false, cond, eqb, List, [], ◌∷◌, ◌++◌, map, length, get_or, set, Some, None, Option, Ok, Err, sym, refl, ap, ◌∙◌, subst, inl, inr, ⊎_elim, zero-add, arith, length-set, eqb-true}
 use lib.ListN.{length-map}
-use Rattle.std.specs.List.{AllByRecursion}
-use Rattle.std.proofs.ByRecursion.{All-map, All-weaker}
+use Rattle.std.specs.Prelude.{All}
+use Rattle.std.proofs.lemmas.List.Elements.{All-nil, All-head, All-rest, All-weaker, All-map}
 use Rattle.std.proofs.lemmas.Bool.{cases_lt}
 use Rattle.rack.specs.Racks.{channel_count, head, Leaving}
 use Rattle.rack.proofs.Facts.{few_channels}
@@ -19,24 +19,22 @@ use Rattle.courses.specs.Law.{OnWay, Placed, Stirs as StirsThere, by_forward, by
 use Rattle.courses.proofs.Sets.{some_queue, each_set, each_push}
 use Rattle.fabric.specs.declared.packet.Packet.{Packet}
 use Rattle.fabric.specs.declared.packet.Delivery.{Delivery}
-use Rattle.fabric.specs.declared.queue.Queue.{Queue}
 use Rattle.fabric.specs.declared.call.Call.{Call}
 use Rattle.fabric.specs.declared.call.Call.TheVariants.{Admit, Forward, Take}
-use Rattle.fabric.specs.declared.call.Answer.{Answer}
-use Rattle.fabric.specs.declared.call.Answer.TheVariants.{Admitted, Forwarded, Taken, Refused}
-use Rattle.fabric.specs.Packets.{contents, contents_of, next_hop, moved, delivery}
-use Rattle.fabric.specs.Calls.{Setup, queue_count, Ready, level_for, PairHere, Admits, GoesOn, Forwards, Takes, Acts}
+use Rattle.fabric.specs.declared.call.Done.TheVariants.{Admitted, Forwarded, Taken}
+use Rattle.fabric.specs.Packets.{next_hop, moved, delivery}
+use Rattle.fabric.specs.Calls.{Setup, queue_count, Ready, level_for, PairHere, Admits, GoesOn, Forwards, Takes, Answer, Acts}
 use Rattle.fabric.specs.Courses.{event, path, path_of, InPlace, AllInPlace, standing, Stirs}
 use Rattle.fabric.proofs.Hops.{at_place, of_place}
 use Rattle.fabric.proofs.Roads.{channel_of, hop_again, on_hop, rules, leads, pair_starts, out, out_leaves, only_out, HopIs, path_is, low, narrow, last_hop, not_later, leads_home, leads_on}
 use Rattle.fabric.proofs.Standing.{told_cons, some_at, bounded, unbounded, stand, stand_length, stand_at, stand_past, stand_set, stand_push}
 
 to_none : (o : Option Hop) → on_hop o ≡ home → ⊥
-to_none None e = let z : ◌≡◌ {A = ℕ} 0 1 = cc in omega arith
-to_none (Some h) e = let z : ◌≡◌ {A = ℕ} 0 1 = cc in omega arith
+to_none None e = cc
+to_none (Some h) e = cc
 
 to_some : (o : Option Hop) (y : ℕ) → on_hop o ≡ to y → (h : Hop) × (o ≡ Some h) × (virtual h ≡ y)
-to_some None y e = let z : ◌≡◌ {A = ℕ} 0 1 = cc in absurd (omega arith)
+to_some None y e = absurd cc
 to_some (Some h) y e = (h, refl, cc)
 
 home_or_on : (b : Bool) (o : Onward) → cond b home o ≡ home → (o ≡ home → ⊥) → b ≡ true
@@ -44,7 +42,7 @@ home_or_on true o e no_home = refl
 home_or_on false o e no_home = absurd (no_home e)
 
 on_then : (b : Bool) (o : Onward) (y : ℕ) → cond b home o ≡ to y → o ≡ to y
-on_then true o y e = let z : ◌≡◌ {A = ℕ} 0 1 = cc in absurd (omega arith)
+on_then true o y e = absurd cc
 on_then false o y e = e
 
 module _ (s : Setup) (ranged : Ranged s.lanes) (sound : Sound s.routes s.levels s.lanes) where
@@ -127,47 +125,41 @@ module _ (s : Setup) (ranged : Ranged s.lanes) (sound : Sound s.routes s.levels 
     some_ahead = some_at (path s p.pair) p.hop x i.on_path i.place;
   }
 
-  module _ (qs : List Queue) (long : n ≤ length qs) (placed : AllInPlace s qs) where
-    abbrev q : Queues Packet
-    q = contents_of qs
-
-    long_q : n ≤ length q
-    long_q = omega (arith, length-map qs contents)
-
+  module _ (qs : Queues Packet) (long : n ≤ length qs) (placed : AllInPlace s qs) where
     pub stand_placed : Placed (rules s) (path_of s) (standing s qs)
     stand_placed x =
         ⊎_elim
         (λ (l : x < n).
-        subst (AllByRecursion (OnWay (rules s) (path_of s) x)) (sym (stand_at n q long_q x l))
-        (All-map (OnWay (rules s) (path_of s) x) delivery (at q x) (All-weaker (InPlace s x) (λ p. OnWay (rules s) (path_of s) x (delivery p)) (on_way x) (at q x) (placed x l))))
-        (λ (l : n ≤ x). subst (AllByRecursion (OnWay (rules s) (path_of s) x)) (sym (stand_past n q long_q x l)) tt)
+        subst (All (OnWay (rules s) (path_of s) x)) (sym (stand_at n qs long x l))
+        (All-map (OnWay (rules s) (path_of s) x) delivery (at qs x) (All-weaker (InPlace s x) (λ p. OnWay (rules s) (path_of s) x (delivery p)) (on_way x) (at qs x) (placed x l))))
+        (λ (l : n ≤ x). subst (All (OnWay (rules s) (path_of s) x)) (sym (stand_past n qs long x l)) (All-nil (OnWay (rules s) (path_of s) x)))
         (cases_lt x n)
 
-    first_placed : (x : ℕ) (p : Packet) (rest : List Packet) → x < n → at q x ≡ p ∷ rest → AllByRecursion (InPlace s x) (p ∷ rest)
-    first_placed x p rest l e = subst (AllByRecursion (InPlace s x)) e (placed x l)
+    first_placed : (x : ℕ) (p : Packet) (rest : List Packet) → x < n → at qs x ≡ p ∷ rest → InPlace s x p
+    first_placed x p rest l e = All-head (InPlace s x) p rest (subst (All (InPlace s x)) e (placed x l))
 
-    first_stands : (x : ℕ) (p : Packet) (rest : List Packet) → x < n → at q x ≡ p ∷ rest → at (standing s qs) x ≡ delivery p ∷ map delivery rest
-    first_stands x p rest l e = stand_at n q long_q x l ∙ ap (map delivery) e
+    rest_placed : (x : ℕ) (p : Packet) (rest : List Packet) → x < n → at qs x ≡ p ∷ rest → All (InPlace s x) rest
+    rest_placed x p rest l e = All-rest (InPlace s x) p rest (at qs x) e (placed x l)
 
-    count_stands : (x : ℕ) → x < n → length (at (standing s qs) x) ≡ length (at q x)
-    count_stands x l = ap length (stand_at n q long_q x l) ∙ length-map (at q x) delivery
+    first_stands : (x : ℕ) (p : Packet) (rest : List Packet) → x < n → at qs x ≡ p ∷ rest → at (standing s qs) x ≡ delivery p ∷ map delivery rest
+    first_stands x p rest l e = stand_at n qs long x l ∙ ap (map delivery) e
 
-    everywhere : (z : ℕ) → AllByRecursion (λ p. z < n → InPlace s z p) (at q z)
-    everywhere = bounded n (InPlace s) q placed
+    count_stands : (x : ℕ) → x < n → length (at (standing s qs) x) ≡ length (at qs x)
+    count_stands x l = ap length (stand_at n qs long x l) ∙ length-map (at qs x) delivery
+
+    everywhere : (z : ℕ) → All (λ p. z < n → InPlace s z p) (at qs z)
+    everywhere = bounded n (InPlace s) qs placed
 
     -- what a call made of the queues
-    pub record Made (e : Event Delivery) (after : List Queue) : Type 0 where
+    pub record Made (e : Event Delivery) (after : Queues Packet) : Type 0 where
       pub step : Step (rules s) (standing s qs) e (standing s after)
       pub placed_after : AllInPlace s after
       pub long_after : n ≤ length after
 
-    sized : (after : List Queue) (q' : Queues Packet) → contents_of after ≡ q' → length q' ≡ length q → n ≤ length after
-    sized after q' e l = omega (arith, long_q, ap length e, length-map after contents)
+    settle : (after q : Queues Packet) → after ≡ q → ((z : ℕ) → All (λ p. z < n → InPlace s z p) (at q z)) → AllInPlace s after
+    settle after q e h = subst (AllInPlace s) (sym e) (unbounded n (InPlace s) q h)
 
-    settle : (after : List Queue) (q' : Queues Packet) → contents_of after ≡ q' → ((z : ℕ) → AllByRecursion (λ p. z < n → InPlace s z p) (at q' z)) → AllInPlace s after
-    settle after q' e h = subst (λ r. (z : ℕ) → z < n → AllByRecursion (InPlace s z) (at r z)) (sym e) (unbounded n (InPlace s) q' h)
-
-    admit_made : (p : Pair) (t : ℕ) (after : List Queue) → Admits s qs p t after → Made (admitted (record { pair = p; tag = t })) after
+    admit_made : (p : Pair) (t : ℕ) (after : Queues Packet) → Admits s qs p t after → Made (admitted (record { pair = p; tag = t })) after
     admit_made p t after m =
         let d : Delivery = record { pair = p; tag = t } in
         let x = 8 * m.out in
@@ -180,15 +172,15 @@ module _ (s : Setup) (ranged : Ranged s.lanes) (sound : Sound s.routes s.levels 
           step = admits (record {
             into = x;
             starts = pair_starts s d m.out m.pair m.leaves;
-            there = omega (arith, stand_length n q long_q);
+            there = omega (arith, stand_length n qs long);
             fits = omega (arith, count_stands x inside, m.fits);
-            after = ap (stand n) m.pushed ∙ stand_push n q long_q x m.packet inside ∙ ap (push (standing s qs) x) told;
+            after = ap (stand n) m.pushed ∙ stand_push n qs long x m.packet inside ∙ ap (push (standing s qs) x) told;
           });
-          placed_after = settle after (push q x m.packet) m.pushed (each_push (λ z o. z < n → InPlace s z o) q x m.packet everywhere (λ l. enters_place m.packet m.out pair' level' m.its_hop leaves'));
-          long_after = sized after (push q x m.packet) m.pushed (length-set q x (at q x ++ (m.packet ∷ [])));
+          placed_after = settle after (push qs x m.packet) m.pushed (each_push (λ z o. z < n → InPlace s z o) qs x m.packet everywhere (λ l. enters_place m.packet m.out pair' level' m.its_hop leaves'));
+          long_after = omega (arith, long, ap length m.pushed, length-set qs x (at qs x ++ (m.packet ∷ [])));
         }
 
-    forward_made : (x : ℕ) (h : Hop) (after : List Queue) → Forwards s qs x h after → Made forwarded after
+    forward_made : (x : ℕ) (h : Hop) (after : Queues Packet) → Forwards s qs x h after → Made forwarded after
     forward_made x h after m =
         let p = m.packet in
         let rest = m.rest in
@@ -196,16 +188,15 @@ module _ (s : Setup) (ranged : Ranged s.lanes) (sound : Sound s.routes s.levels 
         let e = m.can.first.2 in
         let goes = m.can.goes in
         let y = virtual h in
-        let all = first_placed x p rest l e in
-        let i = all.0 in
+        let i = first_placed x p rest l e in
         let w = here_of x p i in
         let k = w.now in
         let narrow_k = narrow s ranged sound p.pair i.pair p.hop k w.is in
         let c : x / 8 ≡ k.channel = ap (λ z. z / 8) w.number ∙ channel_of k narrow_k in
         let sw : enters_switch s.routes.rack k.channel ≡ true = subst (λ z. enters_switch s.routes.rack z ≡ true) c goes.0 in
         let inside : y < n = omega (arith, turns_below s.routes.rack (x / 8) h.channel goes.2, goes.4, ranged.1) in
-        let q₁ = set q x rest in
-        let long_1 : n ≤ length q₁ = omega (arith, long_q, length-set q x rest) in
+        let q₁ = set qs x rest in
+        let long_1 : n ≤ length q₁ = omega (arith, long, length-set qs x rest) in
         record {
           step = forwards {x = x} (record {
             packet = delivery p;
@@ -213,62 +204,55 @@ module _ (s : Setup) (ranged : Ranged s.lanes) (sound : Sound s.routes s.levels 
             next = y;
             first = first_stands x p rest l e;
             leads = leads_on s ranged sound p.pair i.pair (delivery p) refl x k h w.number narrow_k sw (next_here x p i h goes).0;
-            there = omega (arith, stand_length n q long_q);
+            there = omega (arith, stand_length n qs long);
             fits = omega (arith, count_stands y inside, m.can.fits);
-            after = ap (stand n) m.pushed ∙ stand_push n q₁ long_1 y (moved p) inside ∙ ap (λ t. push t y (delivery p)) (stand_set n q long_q x rest l);
+            after = ap (stand n) m.pushed ∙ stand_push n q₁ long_1 y (moved p) inside ∙ ap (λ t. push t y (delivery p)) (stand_set n qs long x rest l);
           });
           placed_after = settle after (push q₁ y (moved p)) m.pushed
               (each_push (λ z o. z < n → InPlace s z o) q₁ y (moved p)
-              (each_set (λ z o. z < n → InPlace s z o) q x rest everywhere (All-weaker (InPlace s x) (λ o. x < n → InPlace s x o) (λ o a b. a) rest all.1))
+              (each_set (λ z o. z < n → InPlace s z o) qs x rest everywhere (All-weaker (InPlace s x) (λ o. x < n → InPlace s x o) (λ o a b. a) rest (rest_placed x p rest l e)))
               (λ b. moves_place x p i h goes));
-          long_after = sized after (push q₁ y (moved p)) m.pushed (length-set q₁ y (at q₁ y ++ (moved p ∷ [])) ∙ length-set q x rest);
+          long_after = omega (arith, long_1, ap length m.pushed, length-set q₁ y (at q₁ y ++ (moved p ∷ [])));
         }
 
-    take_made : (x : ℕ) (d : Delivery) (after : List Queue) → Takes s qs x d after → Made (taken d) after
+    take_made : (x : ℕ) (d : Delivery) (after : Queues Packet) → Takes s qs x d after → Made (taken d) after
     take_made x d after m =
         let p = m.packet in
         let rest = m.rest in
         let l : x < n = m.can.first.1 in
         let e = m.can.first.2 in
-        let all = first_placed x p rest l e in
+        let i = first_placed x p rest l e in
         record {
           step = subst (λ o. Step (rules s) (standing s qs) (taken o) (standing s after)) (sym m.told)
               (takes {x = x} (record {
                 rest = map delivery rest;
                 first = first_stands x p rest l e;
-                ends = leads_home s ranged sound p.pair all.0.pair (delivery p) refl x m.can.home;
-                after = ap (stand n) m.left ∙ stand_set n q long_q x rest l;
+                ends = leads_home s ranged sound p.pair i.pair (delivery p) refl x m.can.home;
+                after = ap (stand n) m.left ∙ stand_set n qs long x rest l;
               }));
-          placed_after = settle after (set q x rest) m.left (each_set (λ z o. z < n → InPlace s z o) q x rest everywhere (All-weaker (InPlace s x) (λ o. x < n → InPlace s x o) (λ o a b. a) rest all.1));
-          long_after = sized after (set q x rest) m.left (length-set q x rest);
+          placed_after = settle after (set qs x rest) m.left (each_set (λ z o. z < n → InPlace s z o) qs x rest everywhere (All-weaker (InPlace s x) (λ o. x < n → InPlace s x o) (λ o a b. a) rest (rest_placed x p rest l e)));
+          long_after = omega (arith, long, ap length m.left, length-set qs x rest);
         }
 
-    refuse_made : (after : List Queue) → after ≡ qs → Made refused after
+    refuse_made : (after : Queues Packet) → after ≡ qs → Made refused after
     refuse_made after e = subst (Made refused) (sym e) (record { step = refuses; placed_after = placed; long_after = long })
 
-    pub made : (c : Call) (a : Answer) (after : List Queue) → Acts s qs c a after → Made (event c a) after
-    made (Admit p t) Admitted after m = admit_made p t after m
-    made (Admit p t) (Forwarded c l) after m = elim m [ ]
-    made (Admit p t) (Taken d) after m = elim m [ ]
-    made (Admit p t) (Refused f) after m = refuse_made after m.0
-    made (Forward x) Admitted after m = elim m [ ]
-    made (Forward x) (Forwarded c l) after m = forward_made x.0 (hop c.0 l.number) after m
-    made (Forward x) (Taken d) after m = elim m [ ]
-    made (Forward x) (Refused f) after m = refuse_made after m.0
-    made (Take x) Admitted after m = elim m [ ]
-    made (Take x) (Forwarded c l) after m = elim m [ ]
-    made (Take x) (Taken d) after m = take_made x.0 d after m
-    made (Take x) (Refused f) after m = refuse_made after m.0
+    pub made : (c : Call) (a : Answer) (after : Queues Packet) → Acts s qs c a after → Made (event c a) after
+    made (Admit p t) (Ok Admitted) after m = admit_made p t after m
+    made (Forward x) (Ok (Forwarded c l)) after m = forward_made x.0 (hop c.0 l.number) after m
+    made (Take x) (Ok (Taken d)) after m = take_made x.0 d after m
+    made _ (Err f) after m = refuse_made after m.0
+    made _ _ after m = elim m [ ]
 
     -- what could move by the law of courses can be forwarded or taken
     module _ (ready : Ready s qs) where
       can_forward : (x : ℕ) (t : Queues Delivery) → ForwardsThere (rules s) (standing s qs) x t → Stirs s qs
       can_forward x t m =
-          let l : x < n = omega (arith, some_queue (standing s qs) x m.packet m.rest m.first, stand_length n q long_q) in
-          let b = told_cons (at q x) m.packet m.rest (sym (stand_at n q long_q x l) ∙ m.first) in
+          let l : x < n = omega (arith, some_queue (standing s qs) x m.packet m.rest m.first, stand_length n qs long) in
+          let b = told_cons (at qs x) m.packet m.rest (sym (stand_at n qs long x l) ∙ m.first) in
           let p = b.0 in
           let e = b.2 in
-          let i = (first_placed x p b.1 l e).0 in
+          let i = first_placed x p b.1 l e in
           let w = here_of x p i in
           let v = p.pair.receiver.0 in
           let level = level_for s p.pair in
@@ -281,7 +265,7 @@ module _ (s : Setup) (ranged : Ranged s.lanes) (sound : Sound s.routes s.levels 
           let c : x / 8 ≡ a.0.channel = ap (λ (y : Hop). y.channel) k in
           let f = a.3 in
           let c' : h.channel ≡ f.0 = ap (λ (y : Hop). y.channel) f.3 in
-          let inside : m.next < n = omega (arith, m.there, stand_length n q long_q) in
+          let inside : m.next < n = omega (arith, m.there, stand_length n qs long) in
           let sw : enters_switch s.routes.rack (x / 8) ≡ true = subst (λ y. enters_switch s.routes.rack y ≡ true) (sym c) a.2 in
           let nx : s.routes.next (x / 8) v ≡ Some h.channel = ap (λ y. s.routes.next y v) c ∙ f.1 ∙ ap Some (sym c') in
           let tn : turns s.routes.rack (x / 8) h.channel ≡ true = ap (λ y. turns s.routes.rack y h.channel) c ∙ ap (turns s.routes.rack a.0.channel) c' ∙ f.2 in
@@ -295,14 +279,14 @@ module _ (s : Setup) (ranged : Ranged s.lanes) (sound : Sound s.routes s.levels 
             record {
               first = (ready, l, e);
               goes = (sw, nx, tn, ln, low s ranged sound p.pair i.pair (suc p.hop) h is_next);
-              fits = omega (arith, m.fits, count_stands m.next inside, ap (λ y. length (at q y)) o.2);
+              fits = omega (arith, m.fits, count_stands m.next inside, ap (λ y. length (at qs y)) o.2);
             },
           )
 
       can_take : (x : ℕ) (d : Delivery) (t : Queues Delivery) → TakesThere (rules s) (standing s qs) x d t → Stirs s qs
       can_take x d t m =
-          let l : x < n = omega (arith, some_queue (standing s qs) x d m.rest m.first, stand_length n q long_q) in
-          let b = told_cons (at q x) d m.rest (sym (stand_at n q long_q x l) ∙ m.first) in
+          let l : x < n = omega (arith, some_queue (standing s qs) x d m.rest m.first, stand_length n qs long) in
+          let b = told_cons (at qs x) d m.rest (sym (stand_at n qs long x l) ∙ m.first) in
           let p = b.0 in
           let leads_p : leads s x (delivery p) ≡ home = ap (leads s x) b.3 ∙ m.ends in
           let v = p.pair.receiver.0 in

@@ -1,6 +1,5 @@
 -- What holds after any course of calls under a sound plan. Assumes nothing.
-use Rattle.std.specs.Prelude.{◌≡◌, ℕ, zero, suc, ◌+◌, ◌<◌, Bool, ◌&&◌, ◌⊎◌, ◌↔◌, List, [], ◌∷◌, ◌++◌, map, length, take, Some, None, sum_by, filter, Option, ◌==◌, nat_eq, slice_index_or}
-use Rattle.std.specs.List.{AllByRecursion}
+use Rattle.std.specs.Prelude.{All, ◌≡◌, ℕ, zero, suc, ◌+◌, ◌<◌, Bool, ◌&&◌, ◌⊎◌, ◌↔◌, List, [], ◌∷◌, ◌++◌, map, length, take, Some, None, Ok, sum_by, filter, Option, ◌==◌, nat_eq, slice_index}
 use Rattle.rack.specs.declared.rack.Rack.{Rack}
 use Rattle.rack.specs.Racks.{channel_count, tail}
 use Rattle.routing.specs.declared.pair.Pair.{Pair}
@@ -11,33 +10,23 @@ use Rattle.courses.specs.Queues.{Queues, at, Event, refused, admitted, forwarded
 use Rattle.courses.specs.Law.{hops, entered, left, moves, waiting}
 use Rattle.fabric.specs.declared.packet.Packet.{Packet}
 use Rattle.fabric.specs.declared.packet.Delivery.{Delivery}
-use Rattle.fabric.specs.declared.queue.Queue.{Queue}
 use Rattle.fabric.specs.declared.call.Call.{Call}
 use Rattle.fabric.specs.declared.call.Call.TheVariants.{Admit, Forward, Take}
-use Rattle.fabric.specs.declared.call.Answer.{Answer}
-use Rattle.fabric.specs.declared.call.Answer.TheVariants.{Admitted, Forwarded, Taken, Refused}
-use Rattle.fabric.specs.Packets.{contents_of, delivery}
-use Rattle.fabric.specs.Calls.{Setup, queue_count, Ready, NothingWaits, level_for, PairHere, CanForward, CanTake, Acts}
+use Rattle.fabric.specs.declared.call.Done.TheVariants.{Admitted, Forwarded, Taken}
+use Rattle.fabric.specs.Packets.{delivery}
+use Rattle.fabric.specs.Calls.{Setup, queue_count, Ready, NothingWaits, level_for, PairHere, CanForward, CanTake, Answer, Acts}
 
 -- any calls one after another, with their answers
-pub data Performs (s : Setup) : List Queue → List Call → List Answer → List Queue → Type 0 where
-  done : {qs : List Queue} → Performs s qs [] [] qs
-  then : {qs qs' qs'' : List Queue} {c : Call} {a : Answer} {cs : List Call} {as' : List Answer} → Acts s qs c a qs' → Performs s qs' cs as' qs'' → Performs s qs (c ∷ cs) (a ∷ as') qs''
+pub data Performs (s : Setup) : Queues Packet → List Call → List Answer → Queues Packet → Type 0 where
+  done : {qs : Queues Packet} → Performs s qs [] [] qs
+  then : {qs qs' qs'' : Queues Packet} {c : Call} {a : Answer} {cs : List Call} {as' : List Answer} → Acts s qs c a qs' → Performs s qs' cs as' qs'' → Performs s qs (c ∷ cs) (a ∷ as') qs''
 
 -- what came of a call
 abbrev pub event : Call → Answer → Event Delivery
-event (Admit p t) Admitted = admitted (record { pair = p; tag = t })
-event (Admit p t) (Forwarded c l) = refused
-event (Admit p t) (Taken d) = refused
-event (Admit p t) (Refused f) = refused
-event (Forward x) Admitted = refused
-event (Forward x) (Forwarded c l) = forwarded
-event (Forward x) (Taken d) = refused
-event (Forward x) (Refused f) = refused
-event (Take x) Admitted = refused
-event (Take x) (Forwarded c l) = refused
-event (Take x) (Taken d) = taken d
-event (Take x) (Refused f) = refused
+event (Admit p t) (Ok Admitted) = admitted (record { pair = p; tag = t })
+event (Forward x) (Ok (Forwarded c l)) = forwarded
+event (Take x) (Ok (Taken d)) = taken d
+event _ _ = refused
 
 abbrev pub events : List Call → List Answer → List (Event Delivery)
 events [] as' = []
@@ -73,26 +62,26 @@ pub record InPlace (s : Setup) (x : ℕ) (p : Packet) : Type 0 where
   pub pair : PairHere s p.pair
   pub level : p.level.number ≡ level_for s p.pair
   pub on_path : p.hop < length (path s p.pair)
-  pub place : slice_index_or (path s p.pair) p.hop 0 ≡ x
+  pub place : slice_index (path s p.pair) p.hop ≡ x
 
 -- every packet that waits does so in its place
-abbrev pub AllInPlace : Setup → List Queue → Type 0
-AllInPlace s qs = (x : ℕ) → x < queue_count s → AllByRecursion (InPlace s x) (at (contents_of qs) x)
+abbrev pub AllInPlace : Setup → Queues Packet → Type 0
+AllInPlace s qs = (x : ℕ) → x < queue_count s → All (InPlace s x) (at qs x)
 
 -- who waits in each queue of the rack, the first to leave first
-abbrev pub standing : Setup → List Queue → Queues Delivery
-standing s qs = map (map delivery) (take (queue_count s) (contents_of qs))
+abbrev pub standing : Setup → Queues Packet → Queues Delivery
+standing s qs = map (map delivery) (take (queue_count s) qs)
 
 -- the hops ahead of all that wait: as many for each packet as its path has channels, less its place
-abbrev pub hops_ahead : Setup → List Queue → ℕ
+abbrev pub hops_ahead : Setup → Queues Packet → ℕ
 hops_ahead s qs = hops (path_of s) (standing s qs)
 
 -- a packet waits
-abbrev pub Waits : Setup → List Queue → Type 0
-Waits s qs = (x : ℕ) × (p : Packet) × (rest : List Packet) × (x < queue_count s) × (at (contents_of qs) x ≡ p ∷ rest)
+abbrev pub Waits : Setup → Queues Packet → Type 0
+Waits s qs = (x : ℕ) × (p : Packet) × (rest : List Packet) × (x < queue_count s) × (at qs x ≡ p ∷ rest)
 
 -- some forward or some take would be accepted
-abbrev pub Stirs : Setup → List Queue → Type 0
+abbrev pub Stirs : Setup → Queues Packet → Type 0
 Stirs s qs =
     ((x : ℕ) × (p : Packet) × (rest : List Packet) × (h : Hop) × CanForward s qs x p rest h)
     ⊎ ((x : ℕ) × (p : Packet) × (rest : List Packet) × CanTake s qs x p rest)
@@ -105,14 +94,14 @@ abbrev pub tags : ℕ → ℕ → List Delivery → List ℕ
 tags u v ds = map (λ d. d.tag) (filter (of_pair u v) ds)
 
 -- the tags of a pair that wait on a path, read from its last queue to its first, each from its first packet
-abbrev pub waiting_tags : Setup → Pair → List Queue → List ℕ
+abbrev pub waiting_tags : Setup → Pair → Queues Packet → List ℕ
 waiting_tags s p qs = map (λ d. d.tag) (waiting (of_pair p.sender.0 p.receiver.0) (path s p) (standing s qs))
 
 abbrev pub pair_tags : Pair → List Delivery → List ℕ
 pair_tags p ds = tags p.sender.0 p.receiver.0 ds
 
 -- what holds of a course: of the queues before it, what came of its calls, and the queues after it
-pub record Lawful (s : Setup) (before : List Queue) (es : List (Event Delivery)) (after : List Queue) : Type 0 where
+pub record Lawful (s : Setup) (before : Queues Packet) (es : List (Event Delivery)) (after : Queues Packet) : Type 0 where
   -- nothing waits off its path, and each packet's hop is its place there
   pub placed : AllInPlace s after
   -- while a packet waits, some forward or take would be accepted
@@ -127,7 +116,7 @@ pub record Lawful (s : Setup) (before : List Queue) (es : List (Event Delivery))
   pub ordered : (p : Pair) → waiting_tags s p before ++ pair_tags p (entered es) ≡ pair_tags p (left es) ++ waiting_tags s p after
 
 -- the same from a fabric that was just opened: only what was admitted counts
-pub record LawfulFromEmpty (s : Setup) (es : List (Event Delivery)) (after : List Queue) : Type 0 where
+pub record LawfulFromEmpty (s : Setup) (es : List (Event Delivery)) (after : Queues Packet) : Type 0 where
   pub placed : AllInPlace s after
   pub moving : Waits s after → Stirs s after
   pub counted : moves es + hops_ahead s after ≡ sum_by (λ d. length (path_of s d)) (entered es)
@@ -135,12 +124,12 @@ pub record LawfulFromEmpty (s : Setup) (es : List (Event Delivery)) (after : Lis
   pub ordered : (p : Pair) → pair_tags p (entered es) ≡ pair_tags p (left es) ++ waiting_tags s p after
 
 -- the plan is one that the check accepts: its lane count and tables are in order, and it is sound
-pub record AcceptedPlan (s : Setup) (qs : List Queue) : Type 0 where
+pub record AcceptedPlan (s : Setup) (qs : Queues Packet) : Type 0 where
   pub ready : Ready s qs
   pub sound : Sound s.routes s.levels s.lanes
 
 -- the law of courses, from any queues in which every packet is in its place; those of an opened fabric are such
-pub record KeepsLaw (s : Setup) (before : List Queue) (calls : List Call) (answers : List Answer) (after : List Queue) : Type 0 where
+pub record KeepsLaw (s : Setup) (before : Queues Packet) (calls : List Call) (answers : List Answer) (after : Queues Packet) : Type 0 where
   pub performed : Performs s before calls answers after
   pub lawful : AcceptedPlan s before → AllInPlace s before → Lawful s before (events calls answers) after
   pub from_empty : AcceptedPlan s before → NothingWaits s.routes.rack before → LawfulFromEmpty s (events calls answers) after

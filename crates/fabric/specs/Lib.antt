@@ -1,3 +1,4 @@
+pub mod Padded
 pub mod Packets
 pub mod Faults
 pub mod Calls

@@ -1,9 +1,9 @@
 // Calls on a fabric, and what is answered to them.
-use crate::fault::FabricFault;
 use crate::packet::{Delivery, VirtualChannel};
 use rack::numbers::{Channel, Lane};
 use routing::pair::Pair;
 
+// A caller gives its calls in a list, so a call is data and not a closure.
 #[derive(Clone, Copy)]
 pub enum Call {
     Admit { pair: Pair, tag: u32 },
@@ -11,11 +11,11 @@ pub enum Call {
     Take(VirtualChannel),
 }
 
+// What an accepted call did.
 #[derive(Clone, Copy, PartialEq, Eq, Debug)]
-pub enum Answer {
+pub enum Done {
     Admitted,
     // the channel and the lane that the packet moved to
     Forwarded(Channel, Lane),
     Taken(Delivery),
-    Refused(FabricFault),
 }

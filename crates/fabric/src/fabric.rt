@@ -8,7 +8,7 @@ pub mod open;
 pub mod run;
 pub mod traffic;
 
-// Made by `open` alone and ended by `close`; it cannot be copied.
+// Made by `open` alone and ended by `close`; it cannot be copied. The plan and the queues are lent to every call, and are no part of it.
 #[derive(Drop)]
 pub struct Fabric {
     // how many packets may wait in each queue

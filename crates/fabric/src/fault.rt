@@ -44,16 +44,15 @@ impl FabricFault {
         ensures { result ≡ (fabric_refusal self).number }
     {
         match self {
-            FabricFault::Lanes => Some(10),
-            FabricFault::Depth => Some(10),
+            FabricFault::Lanes | FabricFault::Depth => Some(10),
             FabricFault::Tables => Some(9),
-            FabricFault::NoPair { pair: _ } => Some(30),
-            FabricFault::Level { pair: _ } => Some(26),
+            FabricFault::NoPair { .. } => Some(30),
+            FabricFault::Level { .. } => Some(26),
             FabricFault::NoQueue => Some(31),
             FabricFault::Empty => Some(32),
-            FabricFault::Misplaced { pair: _, hop: _ } => Some(34),
+            FabricFault::Misplaced { .. } => Some(34),
             FabricFault::Walk(_) => None,
-            FabricFault::Full { pair: _, hop: _ } => Some(33),
+            FabricFault::Full { .. } => Some(33),
         }
     }
 
@@ -62,26 +61,25 @@ impl FabricFault {
         ensures { result ≡ (fabric_refusal self).about }
     {
         match self {
-            FabricFault::NoPair { pair } => Some(pair),
-            FabricFault::Level { pair } => Some(pair),
-            FabricFault::Misplaced { pair, hop: _ } => Some(pair),
-            FabricFault::Full { pair, hop: _ } => Some(pair),
+            FabricFault::NoPair { pair }
+            | FabricFault::Level { pair }
+            | FabricFault::Misplaced { pair, .. }
+            | FabricFault::Full { pair, .. } => Some(pair),
             _ => None,
         }
     }
 
-    // The hop that the refusal is about; 0 where it is about none, and the fault of a walk tells its own.
+    // The hop that the refusal is about; 0 where it is about none, as in the line that tells a refusal, and the fault of a walk tells its own.
     pub fn hop(self) -> u16
         ensures { result ≡ (fabric_refusal self).hop }
     {
         match self {
-            FabricFault::Misplaced { pair: _, hop } => hop,
-            FabricFault::Full { pair: _, hop } => hop,
+            FabricFault::Misplaced { hop, .. } | FabricFault::Full { hop, .. } => hop,
             _ => 0,
         }
     }
 
-    // The fault of a walk, as it was handed up.
+    // The fault of a walk, as it was handed up. Three layers have this question, and no function asks it of more than one: a trait would say it a fourth time.
     pub fn walk(self) -> Option<WalkFault>
         ensures { result ≡ (fabric_refusal self).walk }
     {

@@ -1,7 +1,9 @@
 // What waits in a queue.
-ghost use Rattle.std.specs.Prelude.{◌≡◌};
+ghost use Rattle.std.specs.Prelude.{◌≡◌, ◌+◌, ◌*◌, ◌/◌, ◌<◌};
 ghost use Rattle.fabric.specs.Packets.{next_hop, moved, delivery};
+ghost use Rattle.fabric.specs.Padded.{no_packet};
 
+use crate::fault::FabricFault;
 use rack::numbers::{Channel, Lane, Level, Node};
 use routing::pair::Pair;
 
@@ -25,9 +27,34 @@ pub struct Delivery {
 #[derive(Clone, Copy, PartialEq, Eq, Debug)]
 pub struct VirtualChannel(pub u16);
 
+impl VirtualChannel {
+    // A lane of a channel; a rack has no more than 512 channels.
+    pub(crate) fn of(channel: Channel, lane: Lane) -> VirtualChannel
+        requires { channel.0 < 512 }
+        ensures { result.0 ≡ 8 * channel.0 + lane.number }
+    {
+        VirtualChannel(8 * channel.0 + u16::from(lane.number()))
+    }
+
+    pub(crate) fn channel(self) -> Channel
+        ensures { result.0 ≡ self.0 / 8 }
+    {
+        Channel(self.0 / 8)
+    }
+
+    // The place of its queue.
+    pub(crate) fn place(self) -> usize
+        ensures { result ≡ self.0 }
+    {
+        usize::from(self.0)
+    }
+}
+
 impl Packet {
-    // What stands in the unused places of a queue.
-    pub(crate) fn none() -> Packet {
+    // What stands in the unused places of a queue. Named, and no `Default`: outside a queue it means nothing.
+    pub(crate) fn none() -> Packet
+        ensures { result ≡ no_packet }
+    {
         Packet {
             pair: Pair {
                 sender: Node(0),
@@ -51,10 +78,18 @@ impl Packet {
         ensures { result ≡ moved self }
     {
         Packet {
-            pair: self.pair,
-            level: self.level,
             hop: self.next_hop(),
-            tag: self.tag,
+            ..self
+        }
+    }
+
+    // That it is not where it should be.
+    pub(crate) fn misplaced(self) -> FabricFault
+        ensures { result ≡ FabricFault.Misplaced self.pair self.hop }
+    {
+        FabricFault::Misplaced {
+            pair: self.pair,
+            hop: self.hop,
         }
     }
 

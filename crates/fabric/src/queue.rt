@@ -1,7 +1,6 @@
 // The queue of one virtual channel.
-ghost use Rattle.std.specs.Prelude.{◌≡◌, ◌≤◌, length};
-
 use crate::packet::Packet;
+use std::marker::Model;
 
 pub mod entries;
 pub(crate) mod row;
@@ -10,8 +9,23 @@ pub(crate) mod row;
 #[derive(Clone, Copy)]
 pub struct Queue {
     packets: [Packet; 8],
-    // how many packets wait; the places behind them mean nothing
+    // how many packets wait; in the places behind them stands `Packet::none()`
     len: usize,
-    ghost few: { len ≤ 8 },
-    ghost eight: { length packets ≡ 8 },
+}
+
+// Clauses see the packets that wait.
+impl Model for Queue {
+    ghost use Rattle.std.specs.Prelude.{◌≡◌, List, length, take};
+    ghost use Rattle.fabric.specs.declared.packet.Packet.{Packet};
+    ghost use Rattle.fabric.specs.Padded.{Padded, padded, padded-take};
+
+    ghost Value = { List Packet };
+
+    ghost view = { λ q. take q.len q.packets };
+
+    ghost invariant = { λ q. Padded q.packets q.len };
+
+    ghost inverse = { λ ps. record { packets = padded ps; len = length ps } };
+
+    ghost inverse_ok = { λ q h. λ i. record { packets = (padded-take q.packets q.len h).0 i; len = (padded-take q.packets q.len h).1 i } };
 }

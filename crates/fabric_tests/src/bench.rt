@@ -1,17 +1,19 @@
 // The triangle with the tables of a plan, and calls on a fabric under it.
-use crate::racks::{CLOCKWISE, pair, triangle};
-use crate::rows::{Ask, Say, spoken};
+use crate::racks::{CLOCKWISE, triangle};
+use crate::rows::{Ask, No, Say, spoken};
 use builder::build::build;
 use checking::acceptance::Acceptance;
 use checking::check::check as check_plan;
 use checking::fault::CheckFault;
-use fabric::call::{Answer, Call};
+use fabric::call::{Call, Done};
 use fabric::fabric::Fabric;
 use fabric::fabric::close::NotClosed;
 use fabric::fabric::open::{NotOpened, open};
+use fabric::fault::FabricFault;
 use fabric::packet::VirtualChannel;
 use fabric::queue::Queue;
 use rack::rack::Rack;
+use routing::pair::Pair;
 use routing::plan::Plan;
 use routing::rows::StoredRows;
 use routing::stored::Stored;
@@ -36,8 +38,8 @@ pub fn queues(heap: Global, count: usize) -> Result<Vec<Queue>, AllocError> {
 
 // Puts another entry at a place of a table.
 fn put<T: Copy>(table: &mut Vec<T>, place: usize, entry: T) {
-    if place < table.len() {
-        table[place] = entry;
+    if let Some(old) = table.get_mut(place) {
+        *old = entry;
     }
 }
 
@@ -76,23 +78,35 @@ impl Bench {
         Ok(bench)
     }
 
-    // Checks the plan.
-    pub fn accept(&self, heap: Global) -> Result<Acceptance, CheckFault> {
-        let source = Stored {
+    fn source(&self) -> Stored<'_> {
+        Stored {
             rack: &self.rack,
             forwarding: &self.forwarding,
-        };
-        let map = StoredRows {
+        }
+    }
+
+    fn map(&self) -> StoredRows<'_> {
+        StoredRows {
             rack: &self.rack,
             lanes: &self.lanes,
-        };
-        let plan = Plan {
+        }
+    }
+
+    fn plan<'a, S, M>(&'a self, source: &'a S, map: &'a M) -> Plan<'a, S, M> {
+        Plan {
             rack: &self.rack,
-            source: &source,
-            map: &map,
+            source,
+            map,
             levels: &self.levels,
             lanes: self.count,
-        };
+        }
+    }
+
+    // Checks the plan.
+    pub fn accept(&self, heap: Global) -> Result<Acceptance, CheckFault> {
+        let source = self.source();
+        let map = self.map();
+        let plan = self.plan(&source, &map);
         let mut dependencies = vec![in heap; 0u64; 432]?;
         let mut ranks = vec![in heap; 0u16; 96]?;
         let mut ring = vec![in heap; 0u16; 96]?;
@@ -106,13 +120,7 @@ impl Bench {
         depth: u8,
         queues: &mut Vec<Queue>,
     ) -> Result<Fabric, NotOpened> {
-        let plan = Plan {
-            rack: &self.rack,
-            source: &(),
-            map: &(),
-            levels: &self.levels,
-            lanes: self.count,
-        };
+        let plan = self.plan(&(), &());
         open(acceptance, &plan, depth, queues)
     }
 
@@ -123,10 +131,8 @@ impl Bench {
         depth: u8,
         queues: &mut Vec<Queue>,
     ) -> Result<Fabric, Fail> {
-        match self.open(acceptance, depth, queues) {
-            Ok(fabric) => Ok(fabric),
-            Err(_) => Err(Fail::new("not opened")),
-        }
+        self.open(acceptance, depth, queues)
+            .map_err(|_| Fail::new("not opened"))
     }
 
     // Makes the calls.
@@ -136,55 +142,38 @@ impl Bench {
         fabric: &Fabric,
         queues: &mut Vec<Queue>,
         calls: &Vec<Call>,
-    ) -> Result<Vec<Answer>, AllocError> {
-        let source = Stored {
-            rack: &self.rack,
-            forwarding: &self.forwarding,
-        };
-        let map = StoredRows {
-            rack: &self.rack,
-            lanes: &self.lanes,
-        };
-        let plan = Plan {
-            rack: &self.rack,
-            source: &source,
-            map: &map,
-            levels: &self.levels,
-            lanes: self.count,
-        };
+    ) -> Result<Vec<Result<Done, FabricFault>>, AllocError> {
+        let source = self.source();
+        let map = self.map();
+        let plan = self.plan(&source, &map);
         fabric.run(heap, &plan, queues, calls)
     }
 
     // Makes one call.
-    pub fn act(&self, fabric: &Fabric, queues: &mut Vec<Queue>, call: Call) -> Say {
-        let source = Stored {
-            rack: &self.rack,
-            forwarding: &self.forwarding,
-        };
-        let map = StoredRows {
-            rack: &self.rack,
-            lanes: &self.lanes,
-        };
-        let plan = Plan {
-            rack: &self.rack,
-            source: &source,
-            map: &map,
-            levels: &self.levels,
-            lanes: self.count,
-        };
+    pub fn act(&self, fabric: &Fabric, queues: &mut Vec<Queue>, call: Call) -> Result<Say, No> {
+        let source = self.source();
+        let map = self.map();
+        let plan = self.plan(&source, &map);
         spoken(fabric.act(&plan, queues, call))
     }
 
-    pub fn admit(&self, fabric: &Fabric, queues: &mut Vec<Queue>, u: u16, v: u16, tag: u32) -> Say {
-        let pair = pair(u, v);
+    pub fn admit(
+        &self,
+        fabric: &Fabric,
+        queues: &mut Vec<Queue>,
+        u: u16,
+        v: u16,
+        tag: u32,
+    ) -> Result<Say, No> {
+        let pair = Pair::of(u, v);
         self.act(fabric, queues, Call::Admit { pair, tag })
     }
 
-    pub fn take(&self, fabric: &Fabric, queues: &mut Vec<Queue>, x: u16) -> Say {
+    pub fn take(&self, fabric: &Fabric, queues: &mut Vec<Queue>, x: u16) -> Result<Say, No> {
         self.act(fabric, queues, Call::Take(VirtualChannel(x)))
     }
 
-    fn answer(&mut self, fabric: &Fabric, queues: &mut Vec<Queue>, ask: Ask) -> Say {
+    fn answer(&mut self, fabric: &Fabric, queues: &mut Vec<Queue>, ask: Ask) -> Result<Say, No> {
         match ask {
             Ask::Admit(u, v, tag) => return self.admit(fabric, queues, u, v, tag),
             Ask::Forward(x) => {
@@ -195,7 +184,7 @@ impl Bench {
             Ask::Lane(place, lane) => put(&mut self.lanes, place, lane),
             Ask::Level(place, level) => put(&mut self.levels, place, level),
         }
-        Say::Written
+        Ok(Say::Written)
     }
 
     // Goes through a table, and compares what is answered at each row.
@@ -204,24 +193,18 @@ impl Bench {
         rt: &impl Abort,
         fabric: &Fabric,
         queues: &mut Vec<Queue>,
-        rows: &[(Ask, Say)],
+        rows: &[(Ask, Result<Say, No>)],
     ) -> Result<(), Fail> {
-        for (k, row) in rows.iter().enumerate() {
-            let said = self.answer(fabric, queues, row.0);
-            assert!(rt; said == row.1, "row {k}");
+        for (k, (ask, expected)) in rows.iter().enumerate() {
+            let said = self.answer(fabric, queues, *ask);
+            assert!(rt; said == *expected, "row {k}");
         }
         Ok(())
     }
 
     // Closes the fabric; that asks for no source and no map.
     pub fn close(&self, fabric: Fabric, queues: &Vec<Queue>) -> Result<usize, NotClosed> {
-        let plan = Plan {
-            rack: &self.rack,
-            source: &(),
-            map: &(),
-            levels: &self.levels,
-            lanes: self.count,
-        };
+        let plan = self.plan(&(), &());
         fabric.close(&plan, queues)
     }
 
@@ -233,13 +216,11 @@ impl Bench {
         queues: &Vec<Queue>,
         waiting: usize,
     ) -> Result<(), Fail> {
-        match self.close(fabric, queues) {
-            Ok(count) => {
-                assert!(rt; count == waiting);
-                Ok(())
-            },
-            Err(_) => Err(Fail::new("not closed")),
-        }
+        let count = self
+            .close(fabric, queues)
+            .map_err(|_| Fail::new("not closed"))?;
+        assert!(rt; count == waiting);
+        Ok(())
     }
 
     // Opens a fabric, goes through a table and closes the fabric, where so many packets should still wait.
@@ -249,7 +230,7 @@ impl Bench {
         heap: Global,
         acceptance: Acceptance,
         depth: u8,
-        rows: &[(Ask, Say)],
+        rows: &[(Ask, Result<Say, No>)],
         waiting: usize,
     ) -> Result<(), Fail> {
         let mut queues = queues(heap, 96)?;

@@ -1,6 +1,6 @@
 // Every refusal of the fabric, with its number, its pair and its hop.
 use crate::bench::{Bench, acceptance, queues};
-use crate::rows::{Ask, Say, tell};
+use crate::rows::{Ask, No, Say, tell};
 use checking::acceptance::Acceptance;
 use fabric::fabric::Fabric;
 use fabric::queue::Queue;
@@ -9,46 +9,46 @@ use std::process::Abort;
 use std::test::*;
 
 // At depth 1: pairs that are not two different hosts, virtual channels that are none, empty and full queues, packets that are not where they should be, and levels.
-const CALLS: [(Ask, Say); 36] = [
-    (Ask::Admit(0, 0, 1), Say::NoFor(30, 0, 0, 0)),
-    (Ask::Admit(3, 0, 1), Say::NoFor(30, 3, 0, 0)),
-    (Ask::Admit(0, 3, 1), Say::NoFor(30, 0, 3, 0)),
-    (Ask::Admit(6, 0, 1), Say::NoFor(30, 6, 0, 0)),
-    (Ask::Admit(0, 6, 1), Say::NoFor(30, 0, 6, 0)),
-    (Ask::Admit(0, 65535, 1), Say::NoFor(30, 0, 65535, 0)),
-    (Ask::Forward(96), Say::No(31)),
-    (Ask::Take(96), Say::No(31)),
-    (Ask::Forward(65535), Say::No(31)),
-    (Ask::Take(65535), Say::No(31)),
-    (Ask::Forward(95), Say::No(32)),
-    (Ask::Take(95), Say::No(32)),
+const CALLS: [(Ask, Result<Say, No>); 36] = [
+    (Ask::Admit(0, 0, 1), Err(No::For(30, 0, 0, 0))),
+    (Ask::Admit(3, 0, 1), Err(No::For(30, 3, 0, 0))),
+    (Ask::Admit(0, 3, 1), Err(No::For(30, 0, 3, 0))),
+    (Ask::Admit(6, 0, 1), Err(No::For(30, 6, 0, 0))),
+    (Ask::Admit(0, 6, 1), Err(No::For(30, 0, 6, 0))),
+    (Ask::Admit(0, 65535, 1), Err(No::For(30, 0, 65535, 0))),
+    (Ask::Forward(96), Err(No::Plain(31))),
+    (Ask::Take(96), Err(No::Plain(31))),
+    (Ask::Forward(65535), Err(No::Plain(31))),
+    (Ask::Take(65535), Err(No::Plain(31))),
+    (Ask::Forward(95), Err(No::Plain(32))),
+    (Ask::Take(95), Err(No::Plain(32))),
     // 0 to 2 on hop 0, then on hop 1 with 0 to 1 behind it
-    (Ask::Admit(0, 2, 1), Say::Admitted),
-    (Ask::Admit(0, 2, 2), Say::NoFor(33, 0, 2, 0)),
-    (Ask::Admit(0, 1, 2), Say::NoFor(33, 0, 1, 0)),
-    (Ask::Take(0), Say::NoFor(34, 0, 2, 0)),
-    (Ask::Forward(0), Say::Forwarded(6, 0)),
-    (Ask::Forward(0), Say::No(32)),
-    (Ask::Take(48), Say::NoFor(34, 0, 2, 1)),
-    (Ask::Admit(0, 1, 2), Say::Admitted),
-    (Ask::Forward(0), Say::NoFor(33, 0, 1, 1)),
+    (Ask::Admit(0, 2, 1), Ok(Say::Admitted)),
+    (Ask::Admit(0, 2, 2), Err(No::For(33, 0, 2, 0))),
+    (Ask::Admit(0, 1, 2), Err(No::For(33, 0, 1, 0))),
+    (Ask::Take(0), Err(No::For(34, 0, 2, 0))),
+    (Ask::Forward(0), Ok(Say::Forwarded(6, 0))),
+    (Ask::Forward(0), Err(No::Plain(32))),
+    (Ask::Take(48), Err(No::For(34, 0, 2, 1))),
+    (Ask::Admit(0, 1, 2), Ok(Say::Admitted)),
+    (Ask::Forward(0), Err(No::For(33, 0, 1, 1))),
     // 0 to 2 on hop 3, at its receiver, with 1 to 2 behind it
-    (Ask::Forward(48), Say::Forwarded(8, 1)),
-    (Ask::Forward(65), Say::Forwarded(5, 0)),
-    (Ask::Forward(40), Say::NoFor(34, 0, 2, 3)),
-    (Ask::Admit(1, 2, 3), Say::Admitted),
-    (Ask::Forward(16), Say::Forwarded(8, 0)),
-    (Ask::Forward(64), Say::NoFor(33, 1, 2, 2)),
-    (Ask::Take(40), Say::Taken(0, 2, 1)),
-    (Ask::Forward(64), Say::Forwarded(5, 0)),
+    (Ask::Forward(48), Ok(Say::Forwarded(8, 1))),
+    (Ask::Forward(65), Ok(Say::Forwarded(5, 0))),
+    (Ask::Forward(40), Err(No::For(34, 0, 2, 3))),
+    (Ask::Admit(1, 2, 3), Ok(Say::Admitted)),
+    (Ask::Forward(16), Ok(Say::Forwarded(8, 0))),
+    (Ask::Forward(64), Err(No::For(33, 1, 2, 2))),
+    (Ask::Take(40), Ok(Say::Taken(0, 2, 1))),
+    (Ask::Forward(64), Ok(Say::Forwarded(5, 0))),
     // a level above 15 is told before the queue is looked at, and 15 is a level
-    (Ask::Level(1, 16), Say::Written),
-    (Ask::Level(6, 255), Say::Written),
-    (Ask::Level(12, 15), Say::Written),
-    (Ask::Admit(0, 1, 4), Say::NoFor(26, 0, 1, 0)),
-    (Ask::Admit(0, 2, 4), Say::NoFor(33, 0, 2, 0)),
-    (Ask::Admit(1, 0, 4), Say::NoFor(26, 1, 0, 0)),
-    (Ask::Admit(2, 0, 4), Say::Admitted),
+    (Ask::Level(1, 16), Ok(Say::Written)),
+    (Ask::Level(6, 255), Ok(Say::Written)),
+    (Ask::Level(12, 15), Ok(Say::Written)),
+    (Ask::Admit(0, 1, 4), Err(No::For(26, 0, 1, 0))),
+    (Ask::Admit(0, 2, 4), Err(No::For(33, 0, 2, 0))),
+    (Ask::Admit(1, 0, 4), Err(No::For(26, 1, 0, 0))),
+    (Ask::Admit(2, 0, 4), Ok(Say::Admitted)),
 ];
 
 #[test]
@@ -59,31 +59,31 @@ fn of_calls(rt: HostRuntime) -> Result<(), Fail> {
 }
 
 // The source or the map is wrong at the next hop of a packet from 0 to 2.
-const NEXT_HOPS: [(Ask, Say); 20] = [
-    (Ask::Admit(0, 2, 1), Say::Admitted),
+const NEXT_HOPS: [(Ask, Result<Say, No>); 20] = [
+    (Ask::Admit(0, 2, 1), Ok(Say::Admitted)),
     // 3 has no entry for host 2, one with a channel out of 4, one with what is no channel
-    (Ask::Entry(20, 0), Say::Written),
-    (Ask::Forward(0), Say::NoFor(20, 0, 2, 1)),
-    (Ask::Entry(20, 9), Say::Written),
-    (Ask::Forward(0), Say::NoFor(21, 0, 2, 1)),
-    (Ask::Entry(20, 13), Say::Written),
-    (Ask::Forward(0), Say::NoFor(21, 0, 2, 1)),
-    (Ask::Entry(20, 7), Say::Written),
+    (Ask::Entry(20, 0), Ok(Say::Written)),
+    (Ask::Forward(0), Err(No::For(20, 0, 2, 1))),
+    (Ask::Entry(20, 9), Ok(Say::Written)),
+    (Ask::Forward(0), Err(No::For(21, 0, 2, 1))),
+    (Ask::Entry(20, 13), Ok(Say::Written)),
+    (Ask::Forward(0), Err(No::For(21, 0, 2, 1))),
+    (Ask::Entry(20, 7), Ok(Say::Written)),
     // lane 2 in the turn from channel 0 to channel 6, and a byte that is no lane
-    (Ask::Lane(16, 2), Say::Written),
-    (Ask::Forward(0), Say::NoFor(24, 0, 2, 1)),
-    (Ask::Lane(16, 255), Say::Written),
-    (Ask::Forward(0), Say::NoFor(24, 0, 2, 1)),
-    (Ask::Lane(16, 0), Say::Written),
-    (Ask::Forward(0), Say::Forwarded(6, 0)),
+    (Ask::Lane(16, 2), Ok(Say::Written)),
+    (Ask::Forward(0), Err(No::For(24, 0, 2, 1))),
+    (Ask::Lane(16, 255), Ok(Say::Written)),
+    (Ask::Forward(0), Err(No::For(24, 0, 2, 1))),
+    (Ask::Lane(16, 0), Ok(Say::Written)),
+    (Ask::Forward(0), Ok(Say::Forwarded(6, 0))),
     // lane 7 in the turn from channel 6 to channel 8
-    (Ask::Lane(3488, 7), Say::Written),
-    (Ask::Forward(48), Say::NoFor(24, 0, 2, 2)),
+    (Ask::Lane(3488, 7), Ok(Say::Written)),
+    (Ask::Forward(48), Err(No::For(24, 0, 2, 2))),
     // 4 sends the packet to its own host, where it can neither go on nor be taken
-    (Ask::Entry(26, 4), Say::Written),
-    (Ask::Forward(48), Say::Forwarded(3, 0)),
-    (Ask::Forward(24), Say::NoFor(34, 0, 2, 2)),
-    (Ask::Take(24), Say::NoFor(34, 0, 2, 2)),
+    (Ask::Entry(26, 4), Ok(Say::Written)),
+    (Ask::Forward(48), Ok(Say::Forwarded(3, 0))),
+    (Ask::Forward(24), Err(No::For(34, 0, 2, 2))),
+    (Ask::Take(24), Err(No::For(34, 0, 2, 2))),
 ];
 
 #[test]
@@ -117,7 +117,7 @@ fn not_opened(
     match bench.open(acceptance, depth, &mut queues) {
         Ok(_) => Err(Fail::new("opened")),
         Err(not) => {
-            assert!(rt; tell(not.fault) == Say::No(number));
+            assert!(rt; tell(not.fault) == No::Plain(number));
             Ok(not.acceptance)
         }
     }
@@ -134,11 +134,11 @@ fn not_started(
     let mut bench = Bench::one_lane(heap, levels)?;
     bench.count = count;
     let mut queues = queues(heap, places)?;
-    let told = Say::No(number);
+    let told = No::Plain(number);
     let rows = [
-        (Ask::Admit(0, 0, 1), told),
-        (Ask::Forward(65535), told),
-        (Ask::Take(0), told),
+        (Ask::Admit(0, 0, 1), Err(told)),
+        (Ask::Forward(65535), Err(told)),
+        (Ask::Take(0), Err(told)),
     ];
     bench.rows(rt, &fabric, &mut queues, &rows)?;
     match bench.close(fabric, &queues) {
@@ -151,24 +151,26 @@ fn not_started(
 }
 
 // The acceptance comes back each time.
-fn none_opened(rt: &impl Abort, heap: Global, acceptance: Acceptance) -> Result<Acceptance, Fail> {
-    let mut token = acceptance;
+fn none_opened(
+    rt: &impl Abort,
+    heap: Global,
+    mut acceptance: Acceptance,
+) -> Result<Acceptance, Fail> {
     for row in STARTS {
-        token = not_opened(rt, heap, token, 1, row)?;
+        acceptance = not_opened(rt, heap, acceptance, 1, row)?;
     }
     for depth in [0, 9] {
-        token = not_opened(rt, heap, token, depth, (2, 36, 96, 10))?;
+        acceptance = not_opened(rt, heap, acceptance, depth, (2, 36, 96, 10))?;
     }
-    Ok(token)
+    Ok(acceptance)
 }
 
 // The fabric comes back each time.
-fn none_started(rt: &impl Abort, heap: Global, fabric: Fabric) -> Result<Fabric, Fail> {
-    let mut token = fabric;
+fn none_started(rt: &impl Abort, heap: Global, mut fabric: Fabric) -> Result<Fabric, Fail> {
     for row in STARTS {
-        token = not_started(rt, heap, token, row)?;
+        fabric = not_started(rt, heap, fabric, row)?;
     }
-    Ok(token)
+    Ok(fabric)
 }
 
 // A lane count, a table or a depth is wrong; then the acceptance that came back opens, and the fabric that came back is closed.

@@ -1,5 +1,5 @@
 // Calls and answers in plain numbers, as the tables of the tests have them.
-use fabric::call::Answer;
+use fabric::call::Done;
 use fabric::fault::FabricFault;
 use routing::pair::Pair;
 
@@ -22,41 +22,46 @@ pub enum Say {
     Forwarded(u16, u8),
     // sender, receiver and tag
     Taken(u16, u16, u32),
-    // the number of a refusal that is about no pair
-    No(u8),
-    // the number of a refusal, and the pair and the hop that it is about
-    NoFor(u8, u16, u16, u16),
-    // a refusal that has no number
-    NoNumber,
     // no call was made
     Written,
 }
 
-fn refused(number: Option<u8>, pair: Option<Pair>, hop: u16) -> Say {
+// A refusal.
+#[derive(Clone, Copy, PartialEq)]
+pub enum No {
+    // its number, where it is about no pair
+    Plain(u8),
+    // its number, and the pair and the hop that it is about
+    For(u8, u16, u16, u16),
+    // it has no number
+    NoNumber,
+}
+
+fn refused(number: Option<u8>, pair: Option<Pair>, hop: u16) -> No {
     match (number, pair) {
-        (Some(number), Some(pair)) => Say::NoFor(number, pair.sender.0, pair.receiver.0, hop),
-        (Some(number), None) => Say::No(number),
-        _ => Say::NoNumber,
+        (Some(number), Some(pair)) => No::For(number, pair.sender.0, pair.receiver.0, hop),
+        (Some(number), None) => No::Plain(number),
+        _ => No::NoNumber,
     }
 }
 
 // What is told of a refusal; of the fault of a walk, what that tells.
-pub fn tell(fault: FabricFault) -> Say {
+pub fn tell(fault: FabricFault) -> No {
     match fault.walk() {
         Some(walk) => refused(walk.number(), walk.pair(), walk.hop()),
         None => refused(fault.number(), fault.about(), fault.hop()),
     }
 }
 
-pub fn spoken(answer: Answer) -> Say {
+pub fn spoken(answer: Result<Done, FabricFault>) -> Result<Say, No> {
     match answer {
-        Answer::Admitted => Say::Admitted,
-        Answer::Forwarded(channel, lane) => Say::Forwarded(channel.0, lane.number()),
-        Answer::Taken(delivery) => Say::Taken(
+        Ok(Done::Admitted) => Ok(Say::Admitted),
+        Ok(Done::Forwarded(channel, lane)) => Ok(Say::Forwarded(channel.0, lane.number())),
+        Ok(Done::Taken(delivery)) => Ok(Say::Taken(
             delivery.pair.sender.0,
             delivery.pair.receiver.0,
             delivery.tag,
-        ),
-        Answer::Refused(fault) => tell(fault),
+        )),
+        Err(fault) => Err(tell(fault)),
     }
 }

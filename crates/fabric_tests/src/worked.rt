@@ -1,20 +1,20 @@
 // Worked examples on the triangle that forwards clockwise.
 use crate::bench::{Bench, acceptance, queues};
-use crate::racks::pair;
-use crate::rows::{Ask, Say};
+use crate::rows::{Ask, No, Say};
 use fabric::queue::Queue;
+use routing::pair::Pair;
 use std::alloc::Global;
 use std::process::Abort;
 use std::test::*;
 
 // One packet from 0 to 2, on lane 1 from its second switch to its third; another finds the queue full.
-const PASSAGE: [(Ask, Say); 6] = [
-    (Ask::Admit(0, 2, 9), Say::Admitted),
-    (Ask::Admit(0, 1, 7), Say::NoFor(33, 0, 1, 0)),
-    (Ask::Forward(0), Say::Forwarded(6, 0)),
-    (Ask::Forward(48), Say::Forwarded(8, 1)),
-    (Ask::Forward(65), Say::Forwarded(5, 0)),
-    (Ask::Take(40), Say::Taken(0, 2, 9)),
+const PASSAGE: [(Ask, Result<Say, No>); 6] = [
+    (Ask::Admit(0, 2, 9), Ok(Say::Admitted)),
+    (Ask::Admit(0, 1, 7), Err(No::For(33, 0, 1, 0))),
+    (Ask::Forward(0), Ok(Say::Forwarded(6, 0))),
+    (Ask::Forward(48), Ok(Say::Forwarded(8, 1))),
+    (Ask::Forward(65), Ok(Say::Forwarded(5, 0))),
+    (Ask::Take(40), Ok(Say::Taken(0, 2, 9))),
 ];
 
 #[test]
@@ -25,19 +25,19 @@ fn one_packet(rt: HostRuntime) -> Result<(), Fail> {
 }
 
 // With one lane: three packets, each forwarded once. Then each waits for the queue of the next, and none is at its receiver.
-const JAM: [(Ask, Say); 12] = [
-    (Ask::Admit(0, 2, 1), Say::Admitted),
-    (Ask::Forward(0), Say::Forwarded(6, 0)),
-    (Ask::Admit(1, 0, 2), Say::Admitted),
-    (Ask::Forward(16), Say::Forwarded(8, 0)),
-    (Ask::Admit(2, 1, 3), Say::Admitted),
-    (Ask::Forward(32), Say::Forwarded(10, 0)),
-    (Ask::Forward(48), Say::NoFor(33, 0, 2, 2)),
-    (Ask::Forward(64), Say::NoFor(33, 1, 0, 2)),
-    (Ask::Forward(80), Say::NoFor(33, 2, 1, 2)),
-    (Ask::Take(48), Say::NoFor(34, 0, 2, 1)),
-    (Ask::Take(64), Say::NoFor(34, 1, 0, 1)),
-    (Ask::Take(80), Say::NoFor(34, 2, 1, 1)),
+const JAM: [(Ask, Result<Say, No>); 12] = [
+    (Ask::Admit(0, 2, 1), Ok(Say::Admitted)),
+    (Ask::Forward(0), Ok(Say::Forwarded(6, 0))),
+    (Ask::Admit(1, 0, 2), Ok(Say::Admitted)),
+    (Ask::Forward(16), Ok(Say::Forwarded(8, 0))),
+    (Ask::Admit(2, 1, 3), Ok(Say::Admitted)),
+    (Ask::Forward(32), Ok(Say::Forwarded(10, 0))),
+    (Ask::Forward(48), Err(No::For(33, 0, 2, 2))),
+    (Ask::Forward(64), Err(No::For(33, 1, 0, 2))),
+    (Ask::Forward(80), Err(No::For(33, 2, 1, 2))),
+    (Ask::Take(48), Err(No::For(34, 0, 2, 1))),
+    (Ask::Take(64), Err(No::For(34, 1, 0, 1))),
+    (Ask::Take(80), Err(No::For(34, 2, 1, 1))),
 ];
 
 // The check refuses the plan with one lane, so the acceptance is that of the plan with two. Three packets still wait at the end, so every other queue is empty.
@@ -53,20 +53,20 @@ fn jammed(rt: HostRuntime) -> Result<(), Fail> {
 }
 
 // Two packets in queue 16.
-const TWO_WAIT: [(Ask, Say); 2] = [
-    (Ask::Admit(1, 0, 5), Say::Admitted),
-    (Ask::Admit(1, 2, 6), Say::Admitted),
+const TWO_WAIT: [(Ask, Result<Say, No>); 2] = [
+    (Ask::Admit(1, 0, 5), Ok(Say::Admitted)),
+    (Ask::Admit(1, 2, 6), Ok(Say::Admitted)),
 ];
 
 // One packet goes through, and the queues beyond cannot be asked for.
-const ALONG: [(Ask, Say); 7] = [
-    (Ask::Forward(16), Say::No(32)),
-    (Ask::Admit(1, 2, 7), Say::Admitted),
-    (Ask::Forward(96), Say::No(31)),
-    (Ask::Take(96), Say::No(31)),
-    (Ask::Forward(16), Say::Forwarded(8, 0)),
-    (Ask::Forward(64), Say::Forwarded(5, 0)),
-    (Ask::Take(40), Say::Taken(1, 2, 7)),
+const ALONG: [(Ask, Result<Say, No>); 7] = [
+    (Ask::Forward(16), Err(No::Plain(32))),
+    (Ask::Admit(1, 2, 7), Ok(Say::Admitted)),
+    (Ask::Forward(96), Err(No::Plain(31))),
+    (Ask::Take(96), Err(No::Plain(31))),
+    (Ask::Forward(16), Ok(Say::Forwarded(8, 0))),
+    (Ask::Forward(64), Ok(Say::Forwarded(5, 0))),
+    (Ask::Take(40), Ok(Say::Taken(1, 2, 7))),
 ];
 
 // Has every queue hold two packets.
@@ -78,8 +78,7 @@ fn two_in_each(
 ) -> Result<(), Fail> {
     let fabric = bench.opened(acceptance(rt, heap)?, 2, queues)?;
     bench.rows(rt, &fabric, queues, &TWO_WAIT)?;
-    if 16 < queues.len() {
-        let queue = queues[16];
+    if let Some(queue) = queues.get(16).copied() {
         queues.fill(queue);
     }
     Ok(())
@@ -89,7 +88,9 @@ fn two_in_each(
 fn check_beyond(rt: &impl Abort, queues: &Vec<Queue>) -> Result<(), Fail> {
     for (k, queue) in queues.iter().enumerate() {
         match queue.first() {
-            Some(packet) => assert!(rt; k >= 96 && packet.pair == pair(1, 0) && packet.tag == 5),
+            Some(packet) => assert!(rt;
+                k >= 96 && packet.pair == Pair::of(1, 0) && packet.tag == 5
+            ),
             None => assert!(rt; k < 96),
         }
     }

@@ -1,11 +1,10 @@
 // Closing a fabric.
-ghost use Rattle.std.specs.Prelude.{◌≡◌, ◌*◌, ◌≤◌, length, MatchResult};
+ghost use Rattle.std.specs.Prelude.{◌≡◌, ◌*◌, ◌≤◌, length, IfOk, OnOk, IfErr};
 ghost use Rattle.rack.specs.Racks.{channel_count};
-ghost use Rattle.checking.specs.Starts.{Ranged};
-ghost use Rattle.fabric.specs.Calls.{Enough, NotReady, waiting_count};
+ghost use Rattle.fabric.specs.Calls.{CanStart, CannotStart, waiting_count};
 
 use crate::fabric::Fabric;
-use crate::fabric::given::ready;
+use crate::fabric::given::{queue_count, ready};
 use crate::fault::FabricFault;
 use crate::queue::Queue;
 use rack::rack::Rack;
@@ -19,13 +18,14 @@ pub struct NotClosed {
 }
 
 // How many packets wait in the queues of a rack.
+// A loop and no sum: that a queue holds eight at most, so that the sum fits, is known of each where it is counted.
 fn count_all(rack: &Rack, queues: &[Queue]) -> usize
     requires { 8 * channel_count rack.now ≤ length queues.now }
     ensures { result ≡ waiting_count rack.now queues.now }
 {
     let mut count = 0;
-    for i in 0..8 * rack.channel_count() {
-        count += queues[i].count();
+    for queue in &queues[..queue_count(rack)] {
+        count += queue.count();
     }
     count
 }
@@ -33,14 +33,17 @@ fn count_all(rack: &Rack, queues: &[Queue]) -> usize
 impl Fabric {
     // Ends the fabric and answers how many packets still wait.
     pub fn close<S, M>(self, plan: &Plan<'_, S, M>, queues: &[Queue]) -> Result<usize, NotClosed>
-        ensures { MatchResult result (λ n. Ranged plan.now.lanes × (Enough plan.now.rack.now (length plan.now.levels.now) (length queues.now)) × (n ≡ waiting_count plan.now.rack.now queues.now)) (λ n. (n.fabric ≡ self) × NotReady plan.now.lanes (Enough plan.now.rack.now (length plan.now.levels.now) (length queues.now)) n.fault) }
+        ensures count { IfOk result (λ n. n ≡ waiting_count plan.now.rack.now queues.now) }
+        ensures ready { OnOk result (CanStart plan.now (length queues.now)) }
+        ensures why { IfErr result (λ n. CannotStart plan.now (length queues.now) n.fault) }
+        ensures back { IfErr result (λ n. n.fabric ≡ self) }
     {
-        match ready(plan, queues.len()) {
-            Ok(()) => Ok(count_all(plan.rack, queues)),
-            Err(fault) => Err(NotClosed {
+        if let Err(fault) = ready(plan, queues.len()) {
+            return Err(NotClosed {
                 fault,
                 fabric: self,
-            }),
+            });
         }
+        Ok(count_all(plan.rack, queues))
     }
 }

@@ -1,7 +1,7 @@
 // Packets from queue to queue.
-ghost use Rattle.std.specs.Prelude.{◌≡◌, ◌/◌, ◌<◌, MatchResult};
-ghost use Rattle.routing.specs.Paths.{routing, hop};
-ghost use Rattle.fabric.specs.Calls.{setup, GoesOn, NoWayOn, Forwards, ForwardRefused};
+ghost use Rattle.std.specs.Prelude.{◌≡◌, IfOk, IfErr, OnErr};
+ghost use Rattle.routing.specs.Paths.{hop};
+ghost use Rattle.fabric.specs.Calls.{setup_of, GoesOn, NoWayOn, Forwards, ForwardRefused};
 
 use crate::fabric::Fabric;
 use crate::fault::FabricFault;
@@ -22,15 +22,13 @@ impl Fabric {
         from: VirtualChannel,
         packet: Packet,
     ) -> Result<Step, FabricFault>
-        ensures { MatchResult result (λ h. GoesOn (setup (routing plan.now.rack.now (S.ForwardingSource.route plan.now.source.now) (M.LaneMap.lanes plan.now.map.now)) plan.now.levels.now plan.now.lanes self.now.depth) from.0 packet (hop h.channel.0 h.lane.number)) (NoWayOn (setup (routing plan.now.rack.now (S.ForwardingSource.route plan.now.source.now) (M.LaneMap.lanes plan.now.map.now)) plan.now.levels.now plan.now.lanes self.now.depth) from.0 packet) }
+        ensures on { IfOk result (λ h. GoesOn (setup_of S.route M.lanes plan.now self.now.depth) from.0 packet (hop h.channel.0 h.lane.number)) }
+        ensures why { IfErr result (NoWayOn (setup_of S.route M.lanes plan.now self.now.depth) from.0 packet) }
     {
-        let arriving = Channel(from.0 / 8);
-        let Some(_) = plan.rack.switch_entered(arriving) else {
-            return Err(FabricFault::Misplaced {
-                pair: packet.pair,
-                hop: packet.hop,
-            });
-        };
+        let arriving = from.channel();
+        if plan.rack.switch_entered(arriving).is_none() {
+            return Err(packet.misplaced());
+        }
         let step = advance(plan, packet.pair, packet.level, arriving, packet.next_hop())?;
         Ok(step)
     }
@@ -42,18 +40,20 @@ impl Fabric {
         queues: &mut [Queue],
         from: VirtualChannel,
     ) -> Result<(Channel, Lane), FabricFault>
-        ensures { MatchResult result (λ n. Forwards (setup (routing plan.now.rack.now (S.ForwardingSource.route plan.now.source.now) (M.LaneMap.lanes plan.now.map.now)) plan.now.levels.now plan.now.lanes self.now.depth) queues.old from.0 (hop n.0.0 n.1.number) queues.new) (λ f. (queues.new ≡ queues.old) × ForwardRefused (setup (routing plan.now.rack.now (S.ForwardingSource.route plan.now.source.now) (M.LaneMap.lanes plan.now.map.now)) plan.now.levels.now plan.now.lanes self.now.depth) queues.old from.0 f) }
+        ensures moved { IfOk result (λ n. Forwards (setup_of S.route M.lanes plan.now self.now.depth) queues.old from.0 (hop n.0.0 n.1.number) queues.new) }
+        ensures why { IfErr result (ForwardRefused (setup_of S.route M.lanes plan.now self.now.depth) queues.old from.0) }
+        ensures kept { OnErr result (queues.new ≡ queues.old) }
     {
         let packet = self.first_at(plan, queues, from)?;
         let step = self.onward(plan, from, packet)?;
-        let next = 8 * usize::from(step.channel.0) + usize::from(step.lane.number());
+        let next = VirtualChannel::of(step.channel, step.lane);
         if count_at(queues, next) >= self.room(step.channel) {
             return Err(FabricFault::Full {
                 pair: packet.pair,
                 hop: packet.next_hop(),
             });
         }
-        pop_at(queues, usize::from(from.0));
+        pop_at(queues, from);
         push_at(queues, next, packet.moved());
         Ok((step.channel, step.lane))
     }

@@ -1,22 +1,38 @@
 // What every call on a fabric asks first.
-ghost use Rattle.std.specs.Prelude.{◌≡◌, ◌≤◌, length, MatchResult};
+ghost use Rattle.std.specs.Prelude.{◌≡◌, ◌*◌, ◌≤◌, Decides, MatchResult};
+ghost use Rattle.rack.specs.Racks.{channel_count};
 ghost use Rattle.checking.specs.Starts.{Ranged};
-ghost use Rattle.fabric.specs.Calls.{Enough, NotReady};
+ghost use Rattle.fabric.specs.Calls.{CanStart, CannotStart};
 
 use crate::fabric::Fabric;
 use crate::fault::FabricFault;
 use rack::numbers::Channel;
+use rack::rack::Rack;
 use routing::plan::Plan;
+
+// Whether a lane count or a depth is in range.
+pub(crate) fn is_ranged(count: u8) -> bool
+    ensures { Decides result (Ranged count) }
+{
+    1 <= count && count <= 8
+}
+
+// How many queues a rack has: one for each virtual channel.
+pub(crate) fn queue_count(rack: &Rack) -> usize
+    ensures { result ≡ 8 * channel_count rack.now }
+{
+    8 * rack.channel_count()
+}
 
 // Whether the lane count is in range, and the path table and the queues have the places needed.
 pub(crate) fn ready<S, M>(plan: &Plan<'_, S, M>, queues: usize) -> Result<(), FabricFault>
-    ensures { MatchResult result (λ _. Ranged plan.now.lanes × (Enough plan.now.rack.now (length plan.now.levels.now) queues)) (NotReady plan.now.lanes (Enough plan.now.rack.now (length plan.now.levels.now) queues)) }
+    ensures { MatchResult result (λ _. CanStart plan.now queues) (CannotStart plan.now queues) }
 {
-    if plan.lanes < 1 || plan.lanes > 8 {
+    if !is_ranged(plan.lanes) {
         return Err(FabricFault::Lanes);
     }
     let nodes = plan.rack.node_count();
-    if plan.levels.len() < nodes * nodes || queues < 8 * plan.rack.channel_count() {
+    if plan.levels.len() < nodes * nodes || queues < queue_count(plan.rack) {
         return Err(FabricFault::Tables);
     }
     Ok(())

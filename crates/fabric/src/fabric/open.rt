@@ -1,11 +1,11 @@
 // Opening a fabric.
-ghost use Rattle.std.specs.Prelude.{◌≡◌, ◌*◌, ◌≤◌, length, MatchResult};
+ghost use Rattle.std.specs.Prelude.{◌≡◌, ◌*◌, ◌≤◌, length, IfOk, OnOk, IfErr, OnErr};
 ghost use Rattle.rack.specs.Racks.{channel_count};
 ghost use Rattle.checking.specs.Starts.{Ranged};
-ghost use Rattle.fabric.specs.Calls.{Enough, OpenRefused, Emptied};
+ghost use Rattle.fabric.specs.Calls.{CanStart, CannotOpen, Emptied};
 
 use crate::fabric::Fabric;
-use crate::fabric::given::ready;
+use crate::fabric::given::{is_ranged, queue_count, ready};
 use crate::fault::FabricFault;
 use crate::queue::Queue;
 use checking::acceptance::Acceptance;
@@ -24,7 +24,7 @@ fn empty_all(rack: &Rack, queues: &mut [Queue])
     requires { 8 * channel_count rack.now ≤ length queues.old }
     ensures { Emptied rack.now queues.old queues.new }
 {
-    queues[0..8 * rack.channel_count()].fill(Queue::empty());
+    queues[..queue_count(rack)].fill(Queue::empty());
 }
 
 // Opens a fabric whose queues hold so many packets each: spends the acceptance and empties the queues of the rack.
@@ -34,19 +34,23 @@ pub fn open<S, M>(
     depth: u8,
     queues: &mut [Queue],
 ) -> Result<Fabric, NotOpened>
-    ensures { MatchResult result (λ f. (f.depth ≡ depth) × Ranged depth × Ranged plan.now.lanes × (Enough plan.now.rack.now (length plan.now.levels.now) (length queues.old)) × Emptied plan.now.rack.now queues.old queues.new) (λ n. (n.acceptance ≡ acceptance) × OpenRefused depth plan.now.lanes (Enough plan.now.rack.now (length plan.now.levels.now) (length queues.old)) n.fault × (queues.new ≡ queues.old)) }
+    ensures depth { IfOk result (λ f. f.depth ≡ depth) }
+    ensures ranged { OnOk result (Ranged depth) }
+    ensures ready { OnOk result (CanStart plan.now (length queues.old)) }
+    ensures emptied { OnOk result (Emptied plan.now.rack.now queues.old queues.new) }
+    ensures why { IfErr result (λ n. CannotOpen depth plan.now (length queues.old) n.fault) }
+    ensures back { IfErr result (λ n. n.acceptance ≡ acceptance) }
+    ensures kept { OnErr result (queues.new ≡ queues.old) }
 {
-    if depth < 1 || depth > 8 {
+    if !is_ranged(depth) {
         return Err(NotOpened {
             fault: FabricFault::Depth,
             acceptance,
         });
     }
-    match ready(plan, queues.len()) {
-        Ok(()) => {
-            empty_all(plan.rack, queues);
-            Ok(Fabric { depth })
-        }
-        Err(fault) => Err(NotOpened { fault, acceptance }),
+    if let Err(fault) = ready(plan, queues.len()) {
+        return Err(NotOpened { fault, acceptance });
     }
+    empty_all(plan.rack, queues);
+    Ok(Fabric { depth })
 }

@@ -1,11 +1,11 @@
 // Any calls on a fabric, one after another.
 ghost use Rattle.std.specs.Prelude.{◌≡◌, MatchResult};
-ghost use Rattle.routing.specs.Paths.{routing};
-ghost use Rattle.fabric.specs.Calls.{setup, Acts};
+ghost use Rattle.fabric.specs.Calls.{setup_of, Acts};
 ghost use Rattle.fabric.specs.Courses.{KeepsLaw};
 
-use crate::call::{Answer, Call};
+use crate::call::{Call, Done};
 use crate::fabric::Fabric;
+use crate::fault::FabricFault;
 use crate::queue::Queue;
 use routing::map::LaneMap;
 use routing::plan::Plan;
@@ -19,22 +19,19 @@ impl Fabric {
         plan: &Plan<'_, S, M>,
         queues: &mut [Queue],
         call: Call,
-    ) -> Answer
-        ensures { Acts (setup (routing plan.now.rack.now (S.ForwardingSource.route plan.now.source.now) (M.LaneMap.lanes plan.now.map.now)) plan.now.levels.now plan.now.lanes self.now.depth) queues.old call result queues.new }
+    ) -> Result<Done, FabricFault>
+        ensures { Acts (setup_of S.route M.lanes plan.now self.now.depth) queues.old call result queues.new }
     {
         match call {
-            Call::Admit { pair, tag } => match self.admit(plan, queues, pair, tag) {
-                Ok(()) => Answer::Admitted,
-                Err(fault) => Answer::Refused(fault),
-            },
-            Call::Forward(from) => match self.forward(plan, queues, from) {
-                Ok(next) => Answer::Forwarded(next.0, next.1),
-                Err(fault) => Answer::Refused(fault),
-            },
-            Call::Take(from) => match self.take(plan, queues, from) {
-                Ok(delivery) => Answer::Taken(delivery),
-                Err(fault) => Answer::Refused(fault),
-            },
+            Call::Admit { pair, tag } => {
+                self.admit(plan, queues, pair, tag)?;
+                Ok(Done::Admitted)
+            }
+            Call::Forward(from) => {
+                let (channel, lane) = self.forward(plan, queues, from)?;
+                Ok(Done::Forwarded(channel, lane))
+            }
+            Call::Take(from) => Ok(Done::Taken(self.take(plan, queues, from)?)),
         }
     }
 
@@ -46,8 +43,8 @@ impl Fabric {
         plan: &Plan<'_, S, M>,
         queues: &mut [Queue],
         calls: &[Call],
-    ) -> Result<Vec<Answer>, AllocError>
-        ensures { MatchResult result (λ answers. KeepsLaw (setup (routing plan.now.rack.now (S.ForwardingSource.route plan.now.source.now) (M.LaneMap.lanes plan.now.map.now)) plan.now.levels.now plan.now.lanes self.now.depth) queues.old calls.now answers.items queues.new) (λ _. queues.new ≡ queues.old) }
+    ) -> Result<Vec<Result<Done, FabricFault>>, AllocError>
+        ensures { MatchResult result (λ answers. KeepsLaw (setup_of S.route M.lanes plan.now self.now.depth) queues.old calls.now answers.items queues.new) (λ _. queues.new ≡ queues.old) }
     {
         let mut answers = Vec::with_capacity(heap, calls.len())?;
         for call in calls {

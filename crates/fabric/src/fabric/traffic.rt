@@ -1,18 +1,16 @@
 // Packets in at their senders, and out at their receivers.
-ghost use Rattle.std.specs.Prelude.{◌≡◌, ◌*◌, ◌<◌, [], drop, Decides, MatchResult};
+ghost use Rattle.std.specs.Prelude.{◌≡◌, ◌*◌, ◌<◌, [], drop, Decides, MatchResult, OnOk, IfOk, IfErr, OnErr};
 ghost use Rattle.rack.specs.Racks.{channel_count, head};
-ghost use Rattle.routing.specs.Paths.{routing};
 ghost use Rattle.courses.specs.Queues.{at};
-ghost use Rattle.fabric.specs.Packets.{contents_of};
-ghost use Rattle.fabric.specs.Calls.{setup, Admits, AdmitRefused, First, NoneFirst, Takes, TakeRefused, Entrance, NoEntrance};
+ghost use Rattle.fabric.specs.Calls.{setup_of, Admits, AdmitRefused, First, NoneFirst, Takes, TakeRefused, Entrance, NoEntrance};
 
 use crate::fabric::Fabric;
-use crate::fabric::given::ready;
+use crate::fabric::given::{queue_count, ready};
 use crate::fault::FabricFault;
 use crate::packet::{Delivery, Packet, VirtualChannel};
 use crate::queue::Queue;
 use crate::queue::row::{count_at, pop_at, push_at};
-use rack::numbers::{Channel, Level, Node};
+use rack::numbers::{Channel, Lane, Level, Node};
 use rack::rack::Rack;
 use routing::map::LaneMap;
 use routing::pair::Pair;
@@ -23,11 +21,9 @@ use routing::source::ForwardingSource;
 fn entrance<S, M>(plan: &Plan<'_, S, M>, pair: Pair) -> Result<(Channel, Level), FabricFault>
     ensures { MatchResult result (λ e. Entrance plan.now.rack.now plan.now.levels.now pair e.0.0 e.1.number) (NoEntrance plan.now.rack.now plan.now.levels.now pair) }
 {
-    if pair.sender.0 == pair.receiver.0 || !plan.rack.is_host(pair.receiver) {
-        return Err(FabricFault::NoPair { pair });
-    }
-    let Some(channel) = plan.rack.channel_out(pair.sender) else {
-        return Err(FabricFault::NoPair { pair });
+    let channel = match plan.rack.channel_out(pair.sender) {
+        Some(channel) if pair.joins_hosts(plan.rack) => channel,
+        _ => return Err(FabricFault::NoPair { pair }),
     };
     match level_of(plan.rack, plan.levels, pair) {
         Some(level) => Ok((channel, level)),
@@ -40,10 +36,8 @@ fn enters(rack: &Rack, channel: Channel, node: Node) -> bool
     requires { channel.0 < channel_count rack.now }
     ensures { Decides result (head rack.now channel.0 ≡ node.0) }
 {
-    match rack.ends(channel) {
-        Some(ends) => ends.head.node.0 == node.0,
-        None => false,
-    }
+    rack.ends(channel)
+        .is_some_and(|ends| ends.head.node == node)
 }
 
 impl Fabric {
@@ -54,14 +48,13 @@ impl Fabric {
         queues: &[Queue],
         from: VirtualChannel,
     ) -> Result<Packet, FabricFault>
-        ensures { MatchResult result (λ p. First (setup (routing plan.now.rack.now (S.ForwardingSource.route plan.now.source.now) (M.LaneMap.lanes plan.now.map.now)) plan.now.levels.now plan.now.lanes self.now.depth) queues.now from.0 p (drop 1 (at (contents_of queues.now) from.0))) (NoneFirst (setup (routing plan.now.rack.now (S.ForwardingSource.route plan.now.source.now) (M.LaneMap.lanes plan.now.map.now)) plan.now.levels.now plan.now.lanes self.now.depth) queues.now from.0) }
+        ensures { MatchResult result (λ p. First (setup_of S.route M.lanes plan.now self.now.depth) queues.now from.0 p (drop 1 (at queues.now from.0))) (NoneFirst (setup_of S.route M.lanes plan.now self.now.depth) queues.now from.0) }
     {
         ready(plan, queues.len())?;
-        let place = usize::from(from.0);
-        if place >= 8 * plan.rack.channel_count() {
+        if from.place() >= queue_count(plan.rack) {
             return Err(FabricFault::NoQueue);
         }
-        match queues[place].first() {
+        match queues[from.place()].first() {
             Some(packet) => Ok(packet),
             None => Err(FabricFault::Empty),
         }
@@ -75,12 +68,14 @@ impl Fabric {
         pair: Pair,
         tag: u32,
     ) -> Result<(), FabricFault>
-        ensures { MatchResult result (λ _. Admits (setup (routing plan.now.rack.now (S.ForwardingSource.route plan.now.source.now) (M.LaneMap.lanes plan.now.map.now)) plan.now.levels.now plan.now.lanes self.now.depth) queues.old pair tag queues.new) (λ f. (queues.new ≡ queues.old) × AdmitRefused (setup (routing plan.now.rack.now (S.ForwardingSource.route plan.now.source.now) (M.LaneMap.lanes plan.now.map.now)) plan.now.levels.now plan.now.lanes self.now.depth) queues.old pair f) }
+        ensures admitted { OnOk result (Admits (setup_of S.route M.lanes plan.now self.now.depth) queues.old pair tag queues.new) }
+        ensures why { IfErr result (AdmitRefused (setup_of S.route M.lanes plan.now self.now.depth) queues.old pair) }
+        ensures kept { OnErr result (queues.new ≡ queues.old) }
     {
         ready(plan, queues.len())?;
         let (channel, level) = entrance(plan, pair)?;
-        let place = 8 * usize::from(channel.0);
-        if count_at(queues, place) >= self.room(channel) {
+        let first = VirtualChannel::of(channel, Lane::zero());
+        if count_at(queues, first) >= self.room(channel) {
             return Err(FabricFault::Full { pair, hop: 0 });
         }
         let packet = Packet {
@@ -89,7 +84,7 @@ impl Fabric {
             hop: 0,
             tag,
         };
-        push_at(queues, place, packet);
+        push_at(queues, first, packet);
         Ok(())
     }
 
@@ -100,16 +95,15 @@ impl Fabric {
         queues: &mut [Queue],
         from: VirtualChannel,
     ) -> Result<Delivery, FabricFault>
-        ensures { MatchResult result (λ d. Takes (setup (routing plan.now.rack.now (S.ForwardingSource.route plan.now.source.now) (M.LaneMap.lanes plan.now.map.now)) plan.now.levels.now plan.now.lanes self.now.depth) queues.old from.0 d queues.new) (λ f. (queues.new ≡ queues.old) × TakeRefused (setup (routing plan.now.rack.now (S.ForwardingSource.route plan.now.source.now) (M.LaneMap.lanes plan.now.map.now)) plan.now.levels.now plan.now.lanes self.now.depth) queues.old from.0 f) }
+        ensures taken { IfOk result (λ d. Takes (setup_of S.route M.lanes plan.now self.now.depth) queues.old from.0 d queues.new) }
+        ensures why { IfErr result (TakeRefused (setup_of S.route M.lanes plan.now self.now.depth) queues.old from.0) }
+        ensures kept { OnErr result (queues.new ≡ queues.old) }
     {
         let packet = self.first_at(plan, queues, from)?;
-        if !enters(plan.rack, Channel(from.0 / 8), packet.pair.receiver) {
-            return Err(FabricFault::Misplaced {
-                pair: packet.pair,
-                hop: packet.hop,
-            });
+        if !enters(plan.rack, from.channel(), packet.pair.receiver) {
+            return Err(packet.misplaced());
         }
-        pop_at(queues, usize::from(from.0));
+        pop_at(queues, from);
         Ok(packet.delivery())
     }
 }

@@ -1,6 +1,5 @@
 // The packets of a queue, altered one entry at a time.
-ghost use Rattle.std.specs.Prelude.{◌≡◌, ◌<◌, ◌≤◌, [], ◌∷◌, ◌++◌, length, drop};
-ghost use Rattle.fabric.specs.Packets.{contents, first_of};
+ghost use Rattle.std.specs.Prelude.{◌≡◌, ◌<◌, ◌≤◌, [], ◌∷◌, ◌++◌, length, drop, slice_get};
 
 use crate::packet::Packet;
 use crate::queue::Queue;
@@ -8,7 +7,7 @@ use crate::queue::Queue;
 impl Queue {
     // A queue in which nothing waits.
     pub fn empty() -> Queue
-        ensures { contents result ≡ [] }
+        ensures { result ≡ [] }
     {
         Queue {
             packets: [Packet::none(); 8],
@@ -18,7 +17,7 @@ impl Queue {
 
     // How many packets wait.
     pub fn count(&self) -> usize
-        ensures is { result ≡ length (contents self.now) }
+        ensures is { result ≡ length self.now }
         ensures few { result ≤ 8 }
     {
         self.len
@@ -26,19 +25,15 @@ impl Queue {
 
     // The packet that leaves first; none if nothing waits.
     pub fn first(&self) -> Option<Packet>
-        ensures { result ≡ first_of (contents self.now) }
+        ensures { result ≡ slice_get self.now 0 }
     {
-        if self.len == 0 {
-            None
-        } else {
-            Some(self.packets[0])
-        }
+        self.packets[..self.len].first().copied()
     }
 
     // Puts a packet last.
     pub(crate) fn push(&mut self, packet: Packet)
-        requires { length (contents self.old) < 8 }
-        ensures { contents self.new ≡ contents self.old ++ (packet ∷ []) }
+        requires { length self.old < 8 }
+        ensures { self.new ≡ self.old ++ (packet ∷ []) }
     {
         self.packets[self.len] = packet;
         self.len += 1;
@@ -46,12 +41,11 @@ impl Queue {
 
     // Lets the first packet go, and moves each other one place to the front.
     pub(crate) fn pop(&mut self)
-        requires { 0 < length (contents self.old) }
-        ensures { contents self.new ≡ drop 1 (contents self.old) }
+        requires { 0 < length self.old }
+        ensures { self.new ≡ drop 1 self.old }
     {
-        for i in 1..8usize {
-            self.packets[i - 1] = self.packets[i];
-        }
+        self.packets[0] = Packet::none();
+        self.packets.rotate_left(1);
         self.len -= 1;
     }
 }

@@ -1,33 +1,34 @@
 // One queue of a row of queues; the others stay as they are.
 ghost use Rattle.std.specs.Prelude.{◌≡◌, ◌<◌, length, drop, slice_set};
 ghost use Rattle.courses.specs.Queues.{at, push};
-ghost use Rattle.fabric.specs.Packets.{contents_of};
 
-use crate::packet::Packet;
+use crate::packet::{Packet, VirtualChannel};
 use crate::queue::Queue;
 
-// How many packets wait in the queue at a place.
-pub(crate) fn count_at(queues: &[Queue], place: usize) -> usize
-    requires { place < length queues.now }
-    ensures { result ≡ length (at (contents_of queues.now) place) }
+// The queues are lent, so that there is one stands as a clause of each of these three.
+
+// How many packets wait in the queue of a virtual channel.
+pub(crate) fn count_at(queues: &[Queue], of: VirtualChannel) -> usize
+    requires { of.0 < length queues.now }
+    ensures { result ≡ length (at queues.now of.0) }
 {
-    queues[place].count()
+    queues[of.place()].count()
 }
 
-// Puts a packet last in the queue at a place.
-pub(crate) fn push_at(queues: &mut [Queue], place: usize, packet: Packet)
-    requires there { place < length queues.old }
-    requires room { length (at (contents_of queues.old) place) < 8 }
-    ensures { contents_of queues.new ≡ push (contents_of queues.old) place packet }
+// Puts a packet last in the queue of a virtual channel.
+pub(crate) fn push_at(queues: &mut [Queue], of: VirtualChannel, packet: Packet)
+    requires there { of.0 < length queues.old }
+    requires room { length (at queues.old of.0) < 8 }
+    ensures { queues.new ≡ push queues.old of.0 packet }
 {
-    queues[place].push(packet);
+    queues[of.place()].push(packet);
 }
 
-// Lets the first packet of the queue at a place go.
-pub(crate) fn pop_at(queues: &mut [Queue], place: usize)
-    requires there { place < length queues.old }
-    requires some { 0 < length (at (contents_of queues.old) place) }
-    ensures { contents_of queues.new ≡ slice_set (contents_of queues.old) place (drop 1 (at (contents_of queues.old) place)) }
+// Lets the first packet of the queue of a virtual channel go.
+pub(crate) fn pop_at(queues: &mut [Queue], of: VirtualChannel)
+    requires there { of.0 < length queues.old }
+    requires some { 0 < length (at queues.old of.0) }
+    ensures { queues.new ≡ slice_set queues.old of.0 (drop 1 (at queues.old of.0)) }
 {
-    queues[place].pop();
+    queues[of.place()].pop();
 }

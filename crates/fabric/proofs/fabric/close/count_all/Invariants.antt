@@ -1,6 +1,5 @@
 use Rattle.std.proofs.Common.{◌≡◌, ◌*◌, ◌≤◌, length, take, sum_by}
-use Rattle.fabric.specs.Packets.{contents_of}
 use Rattle.fabric.proofs.fabric.close.count_all.Given as goal
 
-abbrev pub invariant-loop-i : goal.invariant-loop-i
-invariant-loop-i l = (l.count ≡ sum_by length (take l.i (contents_of l.queues))) × (l.count ≤ 8 * l.i)
+abbrev pub invariant-loop-queue : goal.invariant-loop-queue
+invariant-loop-queue l = record { is : l.count ≡ sum_by length (take l.queue-index l.queue-items); few : l.count ≤ 8 * l.queue-index }
