@@ -1,37 +1,27 @@
 // Reads a rack file from standard input, and prints what the console answers.
 #![tactic(auto)]
 
-ghost use Rattle.std.specs.Prelude.{◌≤◌, length, IfOk};
+ghost use Rattle.std.specs.Prelude.{◌≡◌, take, IfOk, IfSome};
 
 use report::report::report;
+use std::alloc::Global;
 use std::io;
 use std::io::{Read, Write};
 
 // The most bytes that are read.
-const MOST: usize = 4096;
+const MOST: u64 = 4096;
 
-// Reads standard input, up to the end of the buffer.
-fn fill(input: &mut impl Read, buffer: &mut [u8]) -> io::Result<usize>
-    ensures { IfOk result (λ n. n ≤ length buffer.old) }
+// The bytes of the input, up to the most that are read.
+fn read_most<R: Read + Drop>(heap: Global, input: R) -> io::Result<Vec<u8>>
+    ensures { IfOk result (λ file. IfSome (R.remaining input) (λ bytes. file.items ≡ take MOST bytes)) }
 {
-    let mut count = 0;
-    for _ in 0..buffer.len() {
-        if count >= buffer.len() {
-            break;
-        }
-        let more = input.read(&mut buffer[count..])?;
-        if more == 0 {
-            break;
-        }
-        count += more;
-    }
-    Ok(count)
+    let mut file = Vec::new(heap);
+    input.take(MOST).read_to_end(&mut file)?;
+    Ok(file)
 }
 
 fn main(rt: HostRuntime) -> io::Result<()> {
-    let mut buffer = [0u8; MOST];
-    let mut input = rt.stdin();
-    let count = fill(&mut input, &mut buffer)?;
-    let answer = report(rt.alloc(), &buffer[0..count])?;
+    let file = read_most(rt.alloc(), rt.stdin())?;
+    let answer = report(rt.alloc(), &file)?;
     rt.stdout().write_all(answer.as_bytes())
 }

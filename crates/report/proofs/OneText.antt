@@ -1,7 +1,7 @@
 -- A file has one text. Assumes nothing.
-use Rattle.std.proofs.Common.{◌≡◌, ℕ, zero, suc, ◌+◌, ◌*◌, ◌<◌, ◌≤◌, ◌⊎◌, List, [], ◌++◌, length, get_or, Ok, Err, Option, Result, sym, refl, ap, ◌∙◌, subst, ⊎_elim, arith, length-set}
+use Rattle.std.proofs.Common.{◌≡◌, ℕ, zero, suc, ◌+◌, ◌*◌, ◌<◌, ◌≤◌, List, [], ◌++◌, length, get_or, Ok, Err, Option, Result, sym, refl, ap, ◌∙◌, subst, ⊎_elim, arith, length-set}
 use Rattle.std.proofs.lemmas.List.{take_all, length-replicate}
-use Rattle.std.proofs.lemmas.Bool.{cases_order, cases_eq}
+use Rattle.std.proofs.lemmas.Bool.{cases_eq}
 use Rattle.reading.specs.declared.fault.FileFault.{FileFault}
 use Rattle.reading.specs.declared.limits.Limits.{Limits}
 use Rattle.rack.specs.declared.cable.Cable.{Cable}
@@ -34,19 +34,6 @@ use Rattle.report.specs.Laws.{OneText}
 use Rattle.report.proofs.SameRacks.{Same, turned, same_count, same_lanes, pair_to, on_to, ends_to, built_to, lack_to}
 use Rattle.report.proofs.SameRoutes.{same_limits, same_forwarding}
 
-ok_err : {T E : Type 0} (x : T) (y : E) → ◌≡◌ {A = Result T E} (Ok x) (Err y) → ⊥
-ok_err x y e = let z : ◌≡◌ {A = ℕ} 0 1 = cc in omega arith
-
-err_ok : {T E : Type 0} (y : E) (x : T) → ◌≡◌ {A = Result T E} (Err y) (Ok x) → ⊥
-err_ok y x e = let z : ◌≡◌ {A = ℕ} 0 1 = cc in omega arith
-
-err_same : {T E : Type 0} (x y : E) → ◌≡◌ {A = Result T E} (Err x) (Err y) → x ≡ y
-err_same x y e = cc
-
--- one of two numbers is below the other, or they are the same
-same_unless : (m n : ℕ) → (m < n → ⊥) → (n < m → ⊥) → m ≡ n
-same_unless m n a b = ⊎_elim (λ (e : m ≡ n). e) (λ (d : (m < n) ⊎ (n < m)). ⊎_elim (λ (l : m < n). absurd (a l)) (λ (l : n < m). absurd (b l)) d) (cases_order m n)
-
 -- a path ends at one hop
 no_later : (g : Routing) (u v s m n : ℕ) → PairOf g.rack u v → EndsAtHop g u v s m → EndsAtHop g u v s n → m < n → ⊥
 no_later g u v s m n pair a b l =
@@ -54,7 +41,10 @@ no_later g u v s m n pair a b l =
     hop_last g v s on.0 m n a.0 b.0 on.2 (into_host g.rack a.0.channel v pair.1 a.3) l (from_first g u v s on.0 n b.0 pair.0 on.1 b.1)
 
 one_end : (g : Routing) (u v s m n : ℕ) → PairOf g.rack u v → EndsAtHop g u v s m → EndsAtHop g u v s n → m ≡ n
-one_end g u v s m n pair a b = same_unless m n (no_later g u v s m n pair a b) (no_later g u v s n m pair b a)
+one_end g u v s m n pair a b =
+    let before = no_later g u v s m n pair a b in
+    let behind = no_later g u v s n m pair b a in
+    omega (arith, before, behind)
 
 -- two relations that are the same have one greatest rank
 most_ranked : (f h : ℕ → ℕ → Type 0) → ((x y : ℕ) → f x y → h x y) → ((x y : ℕ) → h x y → f x y) → (n a b : ℕ) (s t : List ℕ) → Ranked f n a s s → Ranked h n b t t → 0 < n → a ≤ b
@@ -121,15 +111,16 @@ module _ (r : Rack) (route : ℕ → ℕ → Option ℕ) (count : ℕ) where
     pub one_built : (a b : Tables) → Built r route count a → Built r route count b → a ≡ b
     one_built a b x y =
         sym (whole_tables a (senders_long (node_count r) (blank r) a x))
-        ∙ (one_outcome r route count (blank r) a b (Ok tt) (Ok tt) (outcome_built a x) (outcome_built b y) (ok_err tt Unbuilt) (ok_err tt Unbuilt)).1
+        ∙ (one_outcome r route count (blank r) a b (Ok tt) (Ok tt) (outcome_built a x) (outcome_built b y) (λ e. cc) (λ e. cc)).1
         ∙ whole_tables b (senders_long (node_count r) (blank r) b y)
 
     pub one_lack : (e f : BuildFault) → FirstLacks r route count e → FirstLacks r route count f → e ≡ f
     one_lack e f x y =
-        err_same e f (one_outcome r route count (blank r) (blank r) (blank r) (Err e) (Err f) (outcome_lacks e x) (outcome_lacks f y) (no_memory e x) (no_memory f y)).0
+        let same = (one_outcome r route count (blank r) (blank r) (blank r) (Err e) (Err f) (outcome_lacks e x) (outcome_lacks f y) (no_memory e x) (no_memory f y)).0 in cc
 
     pub not_both : (t : Tables) (f : BuildFault) → Built r route count t → FirstLacks r route count f → ⊥
-    not_both t f x y = ok_err tt f (one_outcome r route count (blank r) t (blank r) (Ok tt) (Err f) (outcome_built t x) (outcome_lacks f y) (ok_err tt Unbuilt) (no_memory f y)).0
+    not_both t f x y =
+        let same = (one_outcome r route count (blank r) t (blank r) (Ok tt) (Err f) (outcome_built t x) (outcome_lacks f y) (λ e. cc) (no_memory f y)).0 in cc
 
 -- what follows what, and the lines, are the same on two racks with the same nodes and cables
 same_level : (r q : Rack) → Same r q → (levels : List ℕ) (u v : ℕ) → level_at r levels u v ≡ level_at q levels u v
@@ -220,12 +211,14 @@ module _ (file : List ℕ) where
   not_given f r route a b =
       let read = b.2 in
       let again = subst (λ (l : Limits). Answers l file (Ok read.counts) read.nodes read.cables b.1) (same_limits read.limits a.0 read.lets_in a.4) read.answers in
-      err_ok f read.counts (one_answer a.0 file (Err f) (Ok read.counts) a.1 read.nodes a.2 read.cables a.3 b.1 a.5 again)
+      let same = one_answer a.0 file (Err f) (Ok read.counts) a.1 read.nodes a.2 read.cables a.3 b.1 a.5 again in
+      cc
 
   one_fault : (f h : FileFault) → Refused file (File f) → Refused file (File h) → f ≡ h
   one_fault f h a b =
       let again = subst (λ (l : Limits). Answers l file (Err h) b.1 b.2 b.3) (same_limits b.0 a.0 b.4 a.4) b.5 in
-      err_same f h (one_answer a.0 file (Err f) (Err h) a.1 b.1 a.2 b.2 a.3 b.3 a.5 again)
+      let same = one_answer a.0 file (Err f) (Err h) a.1 b.1 a.2 b.2 a.3 b.3 a.5 again in
+      cc
 
   -- what lacks over one reading of the file lacks over any other
   lack_given : (f : BuildFault) (q : Rack) (route : ℕ → ℕ → Option ℕ) → Refused file (Build f) → Gives file q route → FirstLacks q route lane_count f

@@ -1,6 +1,6 @@
 -- From what reading, making a rack and planning answer to what is printed. Assumes nothing.
-use Rattle.std.proofs.Common.{◌≡◌, ℕ, ◌-◌, ◌*◌, ◌≤◌, List, length, take, None, Ok, Err, Option, sym, refl, ap, ◌∙◌, subst, inl, inr, ⊎_elim, arith}
-use Rattle.std.proofs.lemmas.List.{take_all, take-take}
+use Rattle.std.proofs.Common.{◌≡◌, ℕ, ◌*◌, ◌≤◌, List, ◌++◌, length, take, drop, None, Ok, Err, Option, sym, refl, ◌∙◌, subst, inl, inr, ⊎_elim, arith}
+use Rattle.std.proofs.lemmas.List.{take_all, take_at, take-take}
 use Rattle.reading.specs.declared.add.Counts.{Counts}
 use Rattle.rack.specs.declared.cable.Cable.{Cable}
 use Rattle.rack.specs.declared.fault.RackFault.{RackFault}
@@ -30,16 +30,14 @@ use Rattle.report.specs.Refusals.{told, of_plan}
 use Rattle.report.specs.Lines.{Adds, AllPrinted}
 use Rattle.report.specs.Reports.{LetsIn, lane_count, Reads, Forwards, Refused, PlannedText, Untold, Unplanned, SomeLack}
 
--- no rack is made of tables that keep the rules only for want of memory
-kept_unmade : (nodes : List ℕ) (cables : List Cable) (f : RackFault) → KeepsRules nodes cables → Refuses nodes cables f → told (Unmade f) ≡ None
-kept_unmade nodes cables Broken keeps h = absurd (h keeps)
-kept_unmade nodes cables NoRoom keeps h = refl
+-- what a vector shows, once all of it was written as a slice, is that slice
+pub written : {T : Type 0} (now last items : List T) (n : ℕ) → length last ≡ n → now ≡ take n (last ++ drop (length last) items) → now ≡ last
+written now last items n long e = e ∙ take_at last (drop (length last) items) n (omega (arith, long))
 
-pub unmade : (nodes : List ℕ) (cables : List Cable) (m n : ℕ) (f : RackFault) → KeepsRules (take m nodes) (take n cables) → Refuses (take (m - 0) nodes) (take (n - 0) cables) f → told (Unmade f) ≡ None
-unmade nodes cables m n f keeps h =
-    let a : m - 0 ≡ m = omega arith in
-    let b : n - 0 ≡ n = omega arith in
-    kept_unmade (take m nodes) (take n cables) f keeps (subst (λ x. Refuses (take m nodes) (take x cables) f) b (subst (λ x. Refuses (take x nodes) (take (n - 0) cables) f) a h))
+-- no rack is made of tables that keep the rules only for want of memory
+pub unmade : (nodes : List ℕ) (cables : List Cable) (f : RackFault) → KeepsRules nodes cables → Refuses nodes cables f → told (Unmade f) ≡ None
+unmade nodes cables Broken keeps h = absurd (h keeps)
+unmade nodes cables NoRoom keeps h = refl
 
 module _ (r : Rack) (route : ℕ → ℕ → Option ℕ) (was now : BuiltTables) (before after : TablesAt) where
   -- the tables have just the places that are needed
@@ -100,12 +98,10 @@ lack_weaker r P R f to l =
 pub reads :
     (file : List ℕ) (limits : Limits) (counts : Counts) (nodes : List ℕ) (cables : List Cable) (forwarding : List ℕ) (r : Rack) →
     LetsIn limits → (counts.nodes ≤ 128) × (counts.cables ≤ 256) → length forwarding ≡ 16384 →
-    Answers limits file (Ok counts) (take 128 nodes) (take 256 cables) (take 16384 forwarding) → nodes_of r ≡ take (counts.nodes - 0) nodes → cables_of r ≡ take (counts.cables - 0) cables →
+    Answers limits file (Ok counts) (take 128 nodes) (take 256 cables) (take 16384 forwarding) → nodes_of r ≡ take counts.nodes nodes → cables_of r ≡ take counts.cables cables →
     Reads file r counts.entries forwarding
 reads file limits counts nodes cables forwarding r lets few long answers n c =
     let same : take 16384 forwarding ≡ forwarding = take_all 16384 forwarding (omega arith) in
-    let m : counts.nodes - 0 ≡ counts.nodes = omega arith in
-    let k : counts.cables - 0 ≡ counts.cables = omega arith in
     record {
       limits = limits;
       counts = counts;
@@ -113,8 +109,8 @@ reads file limits counts nodes cables forwarding r lets few long answers n c =
       cables = take 256 cables;
       lets_in = lets;
       answers = subst (Answers limits file (Ok counts) (take 128 nodes) (take 256 cables)) same answers;
-      all_nodes = n ∙ ap (λ x. take x nodes) m ∙ sym (take-take counts.nodes 128 nodes few.0);
-      all_cables = c ∙ ap (λ x. take x cables) k ∙ sym (take-take counts.cables 256 cables few.1);
+      all_nodes = n ∙ sym (take-take counts.nodes 128 nodes few.0);
+      all_cables = c ∙ sym (take-take counts.cables 256 cables few.1);
       all_entries = refl;
     }
 

@@ -1,7 +1,8 @@
 -- Two readings of a file give the same nodes, cables and forwarding. Assumes nothing.
-use Rattle.std.proofs.Common.{◌≡◌, ℕ, zero, suc, ◌+◌, ◌*◌, ◌<◌, ◌≤◌, Bool, true, false, cond, not, ◌&&◌, eqb, ◌⊎◌, List, length, get_or, Some, None, Ok, Option, Result, sym, refl, ap, ◌∙◌, subst, inl, inr, ⊎_elim, arith, eqb-true}
+use Rattle.std.proofs.Common.{◌≡◌, ℕ, zero, suc, ◌+◌, ◌*◌, ◌<◌, ◌≤◌, Bool, true, false, cond, not, ◌&&◌, eqb, ◌⊎◌, List, length, get_or, Some, None, Ok, Option, sym, refl, ap, ◌∙◌, subst, inl, inr, ⊎_elim, arith, eqb-true}
 use mathlib.Core.HLevel.{is_prop→PathP}
 use native.Mathlib.Bridge.{le_prop}
+use Rattle.std.proofs.Math.Bool.{and-false}
 use Rattle.std.proofs.lemmas.Nat.{mul-add-lt}
 use Rattle.std.proofs.lemmas.List.{get_or_default}
 use Rattle.std.proofs.lemmas.Bool.{cases_lt}
@@ -35,9 +36,6 @@ same_limits a b x y =
       few = (is_prop→PathP (λ j. n j ≤ 128) (λ j. le_prop) a.few.0 b.few.0 i, is_prop→PathP (λ j. c j ≤ 256) (λ j. le_prop) a.few.1 b.few.1 i);
     }
 
-ok_same : {T E : Type 0} (x y : T) → ◌≡◌ {A = Result T E} (Ok x) (Ok y) → x ≡ y
-ok_same x y e = cc
-
 module _ (file : List ℕ) (r q : Rack) (m n : ℕ) (x y : List ℕ) (a : Reads file r m x) (b : Reads file q n y) where
   again : Answers a.limits file (Ok b.counts) b.nodes b.cables y
   again = subst (λ (l : Limits). Answers l file (Ok b.counts) b.nodes b.cables y) (same_limits b.limits a.limits b.lets_in a.lets_in) b.answers
@@ -50,8 +48,9 @@ module _ (file : List ℕ) (r q : Rack) (m n : ℕ) (x y : List ℕ) (a : Reads 
 
   pub same_entries : m ≡ n
   same_entries =
-      let e : a.counts ≡ b.counts = ok_same a.counts b.counts (one_answer a.limits file (Ok a.counts) (Ok b.counts) a.nodes b.nodes a.cables b.cables x y a.answers again) in
-      sym a.all_entries ∙ ap (λ (k : Counts). k.entries) e ∙ b.all_entries
+      let same = one_answer a.limits file (Ok a.counts) (Ok b.counts) a.nodes b.nodes a.cables b.cables x y a.answers again in
+      let counts : a.counts ≡ b.counts = cc in
+      sym a.all_entries ∙ ap (λ (k : Counts). k.entries) counts ∙ b.all_entries
 
   same_places : (k : ℕ) → get_or x k 0 ≡ get_or y k 0
   same_places k = (one_value a.limits file a.counts b.counts a.nodes b.nodes a.cables b.cables x y a.answers again).2 k
@@ -98,10 +97,6 @@ one_fewest r v w c d x y =
     (cases_lt d 255))
     (cases_lt c 255)
 
-and_false : (b : Bool) → (b && false) ≡ false
-and_false true = refl
-and_false false = refl
-
 -- the least number that passes two tests which agree on the numbers asked
 least_same : (p o : ℕ → Bool) (k n : ℕ) → ((d : ℕ) → d < k + n → p d ≡ o d) → least p k n ≡ least o k n
 least_same p o k zero h = refl
@@ -142,7 +137,7 @@ module _ (r q : Rack) (e : Same r q) (x y : List ℕ) (long : node_count r * nod
 
   none_here : (t : Rack) (z : List ℕ) (c v : ℕ) → (enters_switch t c ≡ false) ⊎ (is_end t v ≡ false) → downhill_route t z c v ≡ None
   none_here t z c v (inl f) = cond_false _ _ _ (ap (λ s. s && (is_end t v && not (eqb (told t z (head t c) v) 255))) f)
-  none_here t z c v (inr f) = cond_false _ _ _ (ap (λ s. enters_switch t c && (s && not (eqb (told t z (head t c) v) 255))) f ∙ and_false (enters_switch t c))
+  none_here t z c v (inr f) = cond_false _ _ _ (ap (λ s. enters_switch t c && (s && not (eqb (told t z (head t c) v) 255))) f ∙ and-false (enters_switch t c))
 
   downhill_at : (c v : ℕ) → downhill_route r x c v ≡ downhill_route q y c v
   downhill_at c v =

@@ -1,15 +1,15 @@
 // The lines of the pairs of a plan whose pairs are all fine.
-ghost use Rattle.std.specs.Prelude.{◌≡◌, ◌≤◌, vec_capacity, string_bytes, Decides, MatchResult};
+ghost use Rattle.std.specs.Prelude.{◌≡◌, ◌≤◌, vec_capacity, string_bytes, MatchResult};
 ghost use Rattle.rack.specs.Racks.{node_count, channel_count};
-ghost use Rattle.routing.specs.Paths.{routing, PairOf};
-ghost use Rattle.checking.specs.Plans.{FinePair, AllPairs};
+ghost use Rattle.routing.specs.Paths.{PairOf};
+ghost use Rattle.checking.specs.Plans.{AllPairs};
+ghost use Rattle.routing.specs.Plans.{routing_of};
 ghost use Rattle.report.specs.Lines.{Adds, LineOf, ReceiversPrinted, AllPrinted};
 
-use crate::lines::pair_line;
+use crate::lines::Line;
 use crate::refusal::Refusal;
 use checking::fault::CheckFault;
 use rack::numbers::Node;
-use rack::rack::Rack;
 use routing::map::LaneMap;
 use routing::pair::Pair;
 use routing::plan::{Plan, level_of};
@@ -17,80 +17,77 @@ use routing::source::ForwardingSource;
 use routing::walk::{Step, walk};
 use std::alloc::Global;
 
-// Whether the two are different hosts.
-fn is_pair(rack: &Rack, pair: Pair) -> bool
-    ensures { Decides result (PairOf rack.now pair.sender.0 pair.receiver.0) }
-{
-    if pair.sender.0 == pair.receiver.0 {
-        return false;
-    }
-    rack.is_host(pair.sender) && rack.is_host(pair.receiver)
+// Prints the pairs of a plan that are all fine.
+#[derive(Drop)]
+struct Printer<'a, 'b, S: ForwardingSource, M: LaneMap> {
+    plan: &'a Plan<'b, S, M>,
+    // where the paths are walked, with room for the longest
+    path: Vec<Step>,
+    // what is printed so far
+    out: String,
+    ghost fine: { ∥ AllPairs (routing_of S.route M.lanes plan.now) plan.now.levels.now plan.now.lanes ∥₁ },
+    ghost room: { channel_count plan.now.rack.now ≤ vec_capacity path },
 }
 
-// The line of one pair that is fine: it has a level, and the walk along its path meets no fault.
-fn line_of<S: ForwardingSource, M: LaneMap>(
-    heap: Global,
-    plan: &Plan<'_, S, M>,
-    pair: Pair,
-    path: &mut Vec<Step>,
-) -> Result<String, Refusal>
-    requires pair { PairOf plan.now.rack.now pair.sender.0 pair.receiver.0 }
-    requires fine { FinePair (routing plan.now.rack.now (S.ForwardingSource.route plan.now.source.now) (M.LaneMap.lanes plan.now.map.now)) plan.now.levels.now plan.now.lanes pair.sender.0 pair.receiver.0 }
-    requires room { channel_count plan.now.rack.now ≤ vec_capacity path.old }
-    ensures answer { MatchResult result (λ s. LineOf (routing plan.now.rack.now (S.ForwardingSource.route plan.now.source.now) (M.LaneMap.lanes plan.now.map.now)) plan.now.levels.now pair.sender.0 pair.receiver.0 (string_bytes s)) (λ f. f ≡ Refusal.Memory) }
-    ensures room { channel_count plan.now.rack.now ≤ vec_capacity path.new }
-{
-    let Some(level) = level_of(plan.rack, plan.levels, pair) else {
-        return Err(Refusal::Check(CheckFault::Level { pair }));
-    };
-    match walk(plan, pair, level, path) {
-        Ok(()) => Ok(pair_line(
-            heap,
-            pair.sender.0,
-            pair.receiver.0,
-            level.number(),
-            path.len(),
-        )?),
-        Err(fault) => Err(Refusal::Check(CheckFault::Walk(fault))),
+impl<'a, 'b, S: ForwardingSource, M: LaneMap> Printer<'a, 'b, S, M> {
+    // Prints the line of one pair: it has a level, and the walk along its path meets no fault.
+    fn print_pair(&mut self, pair: Pair) -> Result<(), Refusal>
+        requires { PairOf self.old.plan.now.rack.now pair.sender.0 pair.receiver.0 }
+        ensures plan { self.new.plan ≡ self.old.plan }
+        ensures line { MatchResult result (λ _. Adds (LineOf (routing_of S.route M.lanes self.old.plan.now) self.old.plan.now.levels.now pair.sender.0 pair.receiver.0) (string_bytes self.old.out) (string_bytes self.new.out)) (λ f. f ≡ Refusal.Memory) }
+    {
+        let level = level_of(self.plan.rack, self.plan.levels, pair).ok_or(CheckFault::Level {
+            pair,
+        })?;
+        walk(self.plan, pair, level, &mut self.path)?;
+        let line = Line::Pair {
+            sender: pair.sender.0,
+            receiver: pair.receiver.0,
+            level: level.number(),
+            channels: self.path.len(),
+        };
+        write!(self.out, "{line}")?;
+        Ok(())
     }
-}
 
-// The lines of one sender's pairs, by ascending receiver.
-fn sender_lines<S: ForwardingSource, M: LaneMap>(
-    heap: Global,
-    plan: &Plan<'_, S, M>,
-    sender: Node,
-    path: &mut Vec<Step>,
-    out: &mut String,
-) -> Result<(), Refusal>
-    requires fine { AllPairs (routing plan.now.rack.now (S.ForwardingSource.route plan.now.source.now) (M.LaneMap.lanes plan.now.map.now)) plan.now.levels.now plan.now.lanes }
-    requires room { channel_count plan.now.rack.now ≤ vec_capacity path.old }
-    ensures answer { MatchResult result (λ _. Adds (ReceiversPrinted (routing plan.now.rack.now (S.ForwardingSource.route plan.now.source.now) (M.LaneMap.lanes plan.now.map.now)) plan.now.levels.now sender.0 (node_count plan.now.rack.now)) (string_bytes out.old) (string_bytes out.new)) (λ f. f ≡ Refusal.Memory) }
-    ensures room { channel_count plan.now.rack.now ≤ vec_capacity path.new }
-{
-    for v in 0..plan.rack.node_count() as u16 {
-        let receiver = Node(v);
-        let pair = Pair { sender, receiver };
-        if is_pair(plan.rack, pair) {
-            let line = line_of(heap, plan, pair, path)?;
-            out.push_str(&line)?;
+    // Prints the lines of one sender's pairs, by ascending receiver.
+    fn print_sender(&mut self, sender: Node) -> Result<(), Refusal>
+        ensures plan { self.new.plan ≡ self.old.plan }
+        ensures lines { MatchResult result (λ _. Adds (ReceiversPrinted (routing_of S.route M.lanes self.old.plan.now) self.old.plan.now.levels.now sender.0 (node_count self.old.plan.now.rack.now)) (string_bytes self.old.out) (string_bytes self.new.out)) (λ f. f ≡ Refusal.Memory) }
+    {
+        for v in 0..self.plan.rack.node_count() as u16 {
+            let receiver = Node(v);
+            let pair = Pair { sender, receiver };
+            if pair.joins_hosts(self.plan.rack) {
+                self.print_pair(pair)?;
+            }
         }
+        Ok(())
     }
-    Ok(())
+
+    // Prints the lines of all pairs, by ascending sender.
+    fn print_all(&mut self) -> Result<(), Refusal>
+        ensures plan { self.new.plan ≡ self.old.plan }
+        ensures lines { MatchResult result (λ _. Adds (AllPrinted (routing_of S.route M.lanes self.old.plan.now) self.old.plan.now.levels.now) (string_bytes self.old.out) (string_bytes self.new.out)) (λ f. f ≡ Refusal.Memory) }
+    {
+        for u in 0..self.plan.rack.node_count() as u16 {
+            self.print_sender(Node(u))?;
+        }
+        Ok(())
+    }
 }
 
-// The lines of all pairs, by ascending sender.
+// The lines of all pairs, behind what is printed already.
 pub(crate) fn all_lines<S: ForwardingSource, M: LaneMap>(
     heap: Global,
     plan: &Plan<'_, S, M>,
-    out: &mut String,
-) -> Result<(), Refusal>
-    requires { AllPairs (routing plan.now.rack.now (S.ForwardingSource.route plan.now.source.now) (M.LaneMap.lanes plan.now.map.now)) plan.now.levels.now plan.now.lanes }
-    ensures { MatchResult result (λ _. Adds (AllPrinted (routing plan.now.rack.now (S.ForwardingSource.route plan.now.source.now) (M.LaneMap.lanes plan.now.map.now)) plan.now.levels.now) (string_bytes out.old) (string_bytes out.new)) (λ f. f ≡ Refusal.Memory) }
+    out: String,
+) -> Result<String, Refusal>
+    requires { AllPairs (routing_of S.route M.lanes plan.now) plan.now.levels.now plan.now.lanes }
+    ensures { MatchResult result (λ s. Adds (AllPrinted (routing_of S.route M.lanes plan.now) plan.now.levels.now) (string_bytes out) (string_bytes s)) (λ f. f ≡ Refusal.Memory) }
 {
-    let mut path = Vec::with_capacity(heap, plan.rack.channel_count())?;
-    for u in 0..plan.rack.node_count() as u16 {
-        sender_lines(heap, plan, Node(u), &mut path, out)?;
-    }
-    Ok(())
+    let path = Vec::with_capacity(heap, plan.rack.channel_count())?;
+    let mut printer = Printer { plan, path, out };
+    printer.print_all()?;
+    Ok(printer.out)
 }

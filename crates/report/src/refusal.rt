@@ -1,7 +1,8 @@
 // Why the console refuses a file: the fault of whichever layer found one, handed up whole.
 ghost use Rattle.std.specs.Prelude.{◌≡◌, Some};
 ghost use Rattle.report.specs.Refusals.{plainly, of_record, of_hop, of_walk, of_parts, of_plan, told};
-ghost use Rattle.report.specs.declared.refusal.Refusal.TheVariants.{File, Rack, Distance, Memory};
+ghost use Rattle.report.specs.declared.refusal.Refusal.TheVariants.{File, Rack, Distance, Check, Memory};
+ghost use Rattle.checking.specs.declared.fault.CheckFault.TheVariants.{Walk};
 
 use builder::fault::BuildFault;
 use checking::fault::CheckFault;
@@ -12,7 +13,7 @@ use routing::fault::{DistanceFault, WalkFault};
 use routing::pair::Pair;
 use std::alloc::AllocError;
 
-#[derive(Clone, Copy)]
+#[derive(Clone, Copy, PartialEq, Eq, Debug)]
 pub enum Refusal {
     File(FileFault),
     Rack(RackFault),
@@ -58,6 +59,22 @@ impl From<PlanFault> for Refusal {
     }
 }
 
+impl From<CheckFault> for Refusal {
+    ghost from_gives = { λ f r. r ≡ Check f };
+
+    fn from(fault: CheckFault) -> Refusal {
+        Refusal::Check(fault)
+    }
+}
+
+impl From<WalkFault> for Refusal {
+    ghost from_gives = { λ f r. r ≡ Check (Walk f) };
+
+    fn from(fault: WalkFault) -> Refusal {
+        Refusal::Check(CheckFault::Walk(fault))
+    }
+}
+
 impl From<AllocError> for Refusal {
     ghost from_gives = { λ _ r. r ≡ Memory };
 
@@ -76,52 +93,46 @@ pub struct Told {
     pub hop: u16,
 }
 
-fn plain(number: u8) -> Told
-    ensures { result ≡ plainly number }
-{
-    Told {
-        number,
-        sender: 0,
-        receiver: 0,
-        hop: 0,
+impl Told {
+    // A number alone.
+    fn plain(number: u8) -> Told
+        ensures { result ≡ plainly number }
+    {
+        Told {
+            number,
+            sender: 0,
+            receiver: 0,
+            hop: 0,
+        }
     }
-}
 
-fn at_record(number: u8, record: usize) -> Told
-    ensures { result ≡ of_record number «record» }
-{
-    Told {
-        number,
-        sender: record,
-        receiver: 0,
-        hop: 0,
+    // The number of a fault of the file, and its record in the sender's place.
+    fn at_record(number: u8, record: usize) -> Told
+        ensures { result ≡ of_record number «record» }
+    {
+        Told {
+            sender: record,
+            ..Told::plain(number)
+        }
     }
-}
 
-fn at_hop(number: u8, pair: Pair, hop: u16) -> Told
-    ensures { result ≡ of_hop number pair hop }
-{
-    Told {
-        number,
-        sender: usize::from(pair.sender.0),
-        receiver: pair.receiver.0,
-        hop,
+    // A number, and the pair and the hop that it is about.
+    fn at_hop(number: u8, pair: Pair, hop: u16) -> Told
+        ensures { result ≡ of_hop number pair hop }
+    {
+        Told {
+            number,
+            sender: usize::from(pair.sender.0),
+            receiver: pair.receiver.0,
+            hop,
+        }
     }
-}
-
-fn of_file(fault: FileFault) -> Told
-    ensures { told (File fault) ≡ Some result }
-{
-    at_record(fault.number(), fault.record())
 }
 
 fn of_walk(fault: WalkFault) -> Option<Told>
     ensures { result ≡ of_walk fault }
 {
-    match (fault.number(), fault.pair()) {
-        (Some(number), Some(pair)) => Some(at_hop(number, pair, fault.hop())),
-        _ => None,
-    }
+    Some(Told::at_hop(fault.number()?, fault.pair()?, fault.hop()))
 }
 
 // What is told by a number, and by a pair if there is one; else by the fault of a walk, if it is one.
@@ -129,8 +140,8 @@ fn of_parts(number: Option<u8>, about: Option<Pair>, fault: Option<WalkFault>) -
     ensures { result ≡ of_parts number about fault }
 {
     match (number, about, fault) {
-        (Some(number), Some(pair), _) => Some(at_hop(number, pair, 0)),
-        (Some(number), None, _) => Some(plain(number)),
+        (Some(number), Some(pair), _) => Some(Told::at_hop(number, pair, 0)),
+        (Some(number), None, _) => Some(Told::plain(number)),
         (None, _, Some(fault)) => of_walk(fault),
         (None, _, None) => None,
     }
@@ -141,9 +152,10 @@ pub fn tell(refusal: Refusal) -> Option<Told>
     ensures { result ≡ told refusal }
 {
     match refusal {
-        Refusal::File(fault) => Some(of_file(fault)),
+        Refusal::File(fault) => Some(Told::at_record(fault.number(), fault.record())),
         Refusal::Rack(fault) => of_parts(fault.number(), None, None),
-        Refusal::Distance(fault) => Some(plain(fault.number())),
+        Refusal::Distance(fault) => Some(Told::plain(fault.number())),
+        // the builder's and the check's fault alike: a trait over the two would be longer than the line twice
         Refusal::Build(fault) => of_parts(fault.number(), fault.about(), fault.walk()),
         Refusal::Check(fault) => of_parts(fault.number(), fault.about(), fault.walk()),
         Refusal::Memory => None,

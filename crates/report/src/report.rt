@@ -1,19 +1,16 @@
 // Reads, builds, checks, and says what happened.
-ghost use Rattle.std.specs.Prelude.{◌≡◌, ◌*◌, ◌<◌, length, IfOk, string_bytes, Decides, MatchResult};
-ghost use Rattle.rack.specs.Racks.{node_count, channel_count};
-ghost use Rattle.routing.specs.Turns.{lane_bytes};
-ghost use Rattle.checking.specs.Starts.{Long};
+ghost use Rattle.std.specs.Prelude.{◌≡◌, IfOk, string_bytes, MatchResult};
 ghost use Rattle.checking.specs.Plans.{AllPairs};
 ghost use Rattle.planning.specs.Plans.{planned};
 ghost use Rattle.report.specs.Lines.{Adds, AllPrinted};
 ghost use Rattle.report.specs.Text.{accepted_line};
-ghost use Rattle.report.specs.Reports.{LetsIn, lane_count, PlannedText, AcceptedText, Reports, Unplanned, DownhillRouted, Forwards, SomeText, SomeLack, Untold};
+ghost use Rattle.report.specs.Reports.{lane_count, PlannedText, AcceptedText, Reports, Unplanned, DownhillRouted, Forwards, SomeText, SomeLack, Untold};
 
 use crate::lines::{accepted_line, refused_line};
 use crate::pairs::all_lines;
 use crate::refusal::{Refusal, tell};
+use crate::tables::{FileTables, PlanTables};
 use planning::plan::plan;
-use rack::cable::Cable;
 use rack::rack::Rack;
 use reading::add::Counts;
 use reading::limits::Limits;
@@ -21,22 +18,21 @@ use reading::read::read;
 use routing::distances::fill_distances;
 use routing::downhill::Downhill;
 use routing::plan::Plan;
-use routing::rows::{LEVELS, PORTS, StoredRows};
+use routing::rows::StoredRows;
 use routing::source::ForwardingSource;
 use routing::stored::Stored;
 use std::alloc::{AllocError, Global};
 
+// The most nodes that the console lets in.
+const NODES: usize = 12;
+
+// The most cables that it lets in.
+const CABLES: usize = 16;
+
 // How many lanes the console plans for.
 const LANES: u8 = 8;
 
-// What the console lets in.
-fn console_limits() -> Limits
-    ensures { LetsIn result }
-{
-    Limits::at_most(12, 16)
-}
-
-// The lines of an accepted plan.
+// The lines of an accepted plan. What it takes becomes a `Plan` in its first lines, so no other struct stands for it.
 fn plan_lines<'x, S: ForwardingSource>(
     heap: Global,
     rack: &'x Rack,
@@ -45,8 +41,8 @@ fn plan_lines<'x, S: ForwardingSource>(
     levels: &'x [u8],
     greatest: u16,
 ) -> Result<String, Refusal>
-    requires { AllPairs (planned rack.now (S.ForwardingSource.route source.now) lanes.now) levels.now lane_count }
-    ensures { MatchResult result (λ s. Adds (AllPrinted (planned rack.now (S.ForwardingSource.route source.now) lanes.now) levels.now) (accepted_line greatest) (string_bytes s)) (λ f. f ≡ Refusal.Memory) }
+    requires { AllPairs (planned rack.now (S.route source.now) lanes.now) levels.now lane_count }
+    ensures { MatchResult result (λ s. Adds (AllPrinted (planned rack.now (S.route source.now) lanes.now) levels.now) (accepted_line greatest) (string_bytes s)) (λ f. f ≡ Refusal.Memory) }
 {
     let map = StoredRows { rack, lanes };
     let made = Plan {
@@ -56,72 +52,36 @@ fn plan_lines<'x, S: ForwardingSource>(
         levels,
         lanes: LANES,
     };
-    let mut out = accepted_line(heap, greatest)?;
-    all_lines(heap, &made, &mut out)?;
-    Ok(out)
+    all_lines(heap, &made, accepted_line(heap, greatest)?)
 }
 
-// Builds a plan over a source in tables of the lengths needed, checks it, and says what was accepted.
-fn table_lines<'x, S: ForwardingSource>(
-    heap: Global,
-    rack: &'x Rack,
-    source: &'x S,
-    lanes: &mut [u8],
-    levels: &mut [u8],
-    dependencies: &mut [u64],
-    ranks: &mut [u16],
-    ring: &mut [u16],
-) -> Result<String, Refusal>
-    requires lanes { length lanes.old ≡ lane_bytes (channel_count rack.now) }
-    requires levels { length levels.old ≡ node_count rack.now * node_count rack.now }
-    requires long { Long rack.now (length levels.old) (length dependencies.old) (length ranks.old) (length ring.old) }
-    ensures { MatchResult result (λ s. PlannedText rack.now (S.ForwardingSource.route source.now) (string_bytes s)) (Unplanned rack.now (S.ForwardingSource.route source.now)) }
-{
-    let acceptance = plan(
-        heap,
-        rack,
-        source,
-        LANES,
-        lanes,
-        levels,
-        dependencies,
-        ranks,
-        ring,
-    )?;
-    plan_lines(
-        heap,
-        rack,
-        source,
-        lanes,
-        levels,
-        acceptance.greatest_rank(),
-    )
-}
-
-// The same in tables of its own.
+// Builds a plan over a source, checks it, and says what was accepted.
 fn source_lines<'x, S: ForwardingSource>(
     heap: Global,
     rack: &'x Rack,
     source: &'x S,
 ) -> Result<String, Refusal>
-    ensures { MatchResult result (λ s. PlannedText rack.now (S.ForwardingSource.route source.now) (string_bytes s)) (Unplanned rack.now (S.ForwardingSource.route source.now)) }
+    ensures { MatchResult result (λ s. PlannedText rack.now (S.route source.now) (string_bytes s)) (Unplanned rack.now (S.route source.now)) }
 {
-    let nodes = rack.node_count();
-    let channels = rack.channel_count();
-    let mut lanes = vec![in heap; 0u8; LEVELS * PORTS * channels]?;
-    let mut levels = vec![in heap; 0u8; nodes * nodes]?;
-    let mut dependencies = vec![in heap; 0u64; PORTS * channels]?;
-    let mut ranks = vec![in heap; 0u16; 8 * channels]?;
-    let mut ring = vec![in heap; 0u16; 8 * channels]?;
-    table_lines(
+    let mut tables = PlanTables::new(heap, rack)?;
+    let acceptance = plan(
         heap,
         rack,
         source,
-        &mut lanes,
-        &mut levels,
-        &mut dependencies,
-        &mut ranks,
-        &mut ring,
+        LANES,
+        &mut tables.lanes,
+        &mut tables.levels,
+        &mut tables.dependencies,
+        &mut tables.ranks,
+        &mut tables.ring,
+    )?;
+    plan_lines(
+        heap,
+        rack,
+        source,
+        &tables.lanes,
+        &tables.levels,
+        acceptance.greatest_rank(),
     )
 }
 
@@ -139,13 +99,6 @@ fn downhill_lines(heap: Global, rack: &Rack) -> Result<String, Refusal>
     source_lines(heap, rack, &source)
 }
 
-// Whether the file has forwarding entries.
-fn forwards(counts: Counts) -> bool
-    ensures { Decides result (0 < counts.entries) }
-{
-    counts.entries > 0
-}
-
 // A plan over the forwarding entries if there are any, and else over the true distances.
 fn rack_lines<'x>(
     heap: Global,
@@ -155,50 +108,39 @@ fn rack_lines<'x>(
 ) -> Result<String, Refusal>
     ensures { MatchResult result (λ s. SomeText rack.now (Forwards rack.now counts.entries forwarding.now) (string_bytes s)) (SomeLack rack.now (Forwards rack.now counts.entries forwarding.now)) }
 {
-    if !forwards(counts) {
-        return downhill_lines(heap, rack);
+    if counts.entries > 0 {
+        let source = Stored { rack, forwarding };
+        return source_lines(heap, rack, &source);
     }
-    let source = Stored { rack, forwarding };
-    source_lines(heap, rack, &source)
+    downhill_lines(heap, rack)
 }
 
-// Reads the file into tables of the lengths needed, and says what was accepted.
-fn read_lines(
-    heap: Global,
-    file: &[u8],
-    nodes: &mut [u8],
-    cables: &mut [Cable],
-    forwarding: &mut [u16],
-) -> Result<String, Refusal>
-    requires { (length nodes.old ≡ 128) × ((length cables.old ≡ 256) × (length forwarding.old ≡ 16384)) }
-    ensures { MatchResult result (λ s. AcceptedText file.now (string_bytes s)) (Untold file.now) }
-{
-    let counts = read(file, console_limits(), nodes, cables, forwarding)?;
-    let laid = counts.nodes;
-    let joined = counts.cables;
-    let rack = Rack::from_tables(heap, &nodes[0..laid], &cables[0..joined])?;
-    rack_lines(heap, &rack, counts, forwarding)
-}
-
-// The same in tables of its own.
+// Reads the file, and says what was accepted.
 fn file_lines(heap: Global, file: &[u8]) -> Result<String, Refusal>
     ensures { MatchResult result (λ s. AcceptedText file.now (string_bytes s)) (Untold file.now) }
 {
-    let mut nodes = vec![in heap; 0u8; 128]?;
-    let mut cables = vec![in heap; Cable::none(); 256]?;
-    let mut forwarding = vec![in heap; 0u16; 16384]?;
-    read_lines(heap, file, &mut nodes, &mut cables, &mut forwarding)
+    let mut tables = FileTables::new(heap)?;
+    let counts = read(
+        file,
+        Limits::at_most(NODES, CABLES),
+        &mut tables.nodes,
+        &mut tables.cables,
+        &mut tables.forwarding,
+    )?;
+    let nodes = &tables.nodes[..counts.nodes];
+    let cables = &tables.cables[..counts.cables];
+    let rack = Rack::from_tables(heap, nodes, cables)?;
+    rack_lines(heap, &rack, counts, &tables.forwarding)
 }
 
 // The text that the console prints for a file.
 pub fn report(heap: Global, file: &[u8]) -> Result<String, AllocError>
     ensures { IfOk result (λ s. Reports file.now (string_bytes s)) }
 {
+    // a match: with `or_else` the proof knows nothing of what the closure answers
     match file_lines(heap, file) {
         Ok(lines) => Ok(lines),
-        Err(refusal) => match tell(refusal) {
-            Some(what) => refused_line(heap, what),
-            None => Err(AllocError),
-        },
+        // want of memory is no refusal, and has no line
+        Err(refusal) => refused_line(heap, tell(refusal).ok_or(AllocError)?),
     }
 }

@@ -1,11 +1,10 @@
-use Rattle.std.proofs.Common.{◌≡◌, ◌*◌, ◌≤◌, length, drop, sym, refl, ap, ◌∙◌, subst, arith}
-use Rattle.std.proofs.lemmas.List.{take_at}
+use Rattle.std.proofs.Common.{◌≡◌, ◌*◌, ◌≤◌, length, sym, refl, ap, subst, arith}
 use Rattle.std.proofs.lemmas.Result.{MatchResult-weaker}
 use Rattle.rack.specs.Racks.{node_count}
 use Rattle.routing.specs.Sources.{downhill_route}
 use Rattle.routing.specs.Ways.{Distances}
 use Rattle.report.specs.Reports.{DownhillRouted}
-use Rattle.report.proofs.Outcomes.{lack_from}
+use Rattle.report.proofs.Outcomes.{written, lack_from}
 use Rattle.report.proofs.report.downhill_lines.Goals as goal
 
 pub returns : goal.returns
@@ -14,7 +13,7 @@ returns c =
     let v = c.in_ok-distances.distances in
     let last = c.fill_distances.new.distances in
     let now = c.deref.result.now in
-    let same : now ≡ last = c.deref.ensures.value ∙ take_at last (drop (length last) v.items) v.len (omega arith) in
+    let same : now ≡ last = written now last v.items v.len (omega arith) c.deref.ensures.value in
     let pairs : c.node_count-nodes.result * c.node_count-nodes.result ≡ node_count r * node_count r = ap (λ n. n * n) c.node_count-nodes.ensures.0 in
     let long : node_count r * node_count r ≤ length c.deref_mut.result.now = omega (arith, pairs, c.in_ok-distances.ensures.len, c.deref_mut.ensures.len) in
     let route = downhill_route r now in
