@@ -7,19 +7,25 @@ use crate::cable::{Cable, End};
 use crate::kind::Kind;
 use crate::numbers::Node;
 
+// What the node table says of a node: 1 a host, 2 a switch; 0 for what is no node.
+pub fn kind_at(nodes: &[u8], node: Node) -> u8
+    ensures { result ≡ slice_index nodes.now node.0 }
+{
+    nodes.get(usize::from(node.0)).copied().unwrap_or(0)
+}
+
 // What the node is, by the node table; none if the table has no such node or another number for it.
-pub fn kind_at(nodes: &[u8], node: Node) -> Option<Kind>
+pub fn kind_of(nodes: &[u8], node: Node) -> Option<Kind>
     ensures { MatchOption result ((slice_index nodes.now node.0 ≢ 1) × (slice_index nodes.now node.0 ≢ 2)) (λ kind. code kind ≡ slice_index nodes.now node.0) }
 {
-    let number = nodes.get(usize::from(node.0))?;
-    Kind::of(*number)
+    Kind::of(kind_at(nodes, node))
 }
 
 // Whether the node has the port. Its number is compared with a count, which is no port.
 fn has_port(nodes: &[u8], end: End) -> bool
     ensures { Decides result (Port nodes.now end) }
 {
-    match kind_at(nodes, end.node) {
+    match kind_of(nodes, end.node) {
         Some(kind) => 1 <= end.port.0 && end.port.0 <= kind.ports(),
         None => false,
     }
@@ -29,14 +35,14 @@ fn has_port(nodes: &[u8], end: End) -> bool
 pub fn is_host_at(nodes: &[u8], node: Node) -> bool
     ensures { Decides result (HostAt nodes.now node.0) }
 {
-    kind_at(nodes, node) == Some(Kind::Host)
+    kind_of(nodes, node) == Some(Kind::Host)
 }
 
 // Whether the node is a switch.
 pub fn is_switch_at(nodes: &[u8], node: Node) -> bool
     ensures { Decides result (SwitchAt nodes.now node.0) }
 {
-    kind_at(nodes, node) == Some(Kind::Switch)
+    kind_of(nodes, node) == Some(Kind::Switch)
 }
 
 // Whether the cable joins ports of two different nodes that are not both hosts.

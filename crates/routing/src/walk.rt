@@ -82,7 +82,7 @@ pub fn walk<S: ForwardingSource, M: LaneMap>(
     let count = plan.rack.channel_count() as u16;
     let mut at = depart(plan, pair)?;
     path.push(at)?;
-    // counted by hand, since the source is not asked for hop `count`
+    // to `count` and no further, since the source is not asked for hop `count`
     for hop in 1..count {
         if plan.rack.switch_entered(at.channel).is_none() {
             return arrive(plan, pair, at.channel, hop - 1);
