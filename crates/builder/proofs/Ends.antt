@@ -2,14 +2,13 @@
 use Rattle.std.proofs.Common.{◌≡◌, ℕ, zero, suc, ◌+◌, ◌-◌, ◌<◌, ◌≤◌, min, true, ltb, leb, ◌⊎◌, List, length, get_or, take, replicate, Option, sym, refl, ap, ◌∙◌, subst, ⊎_elim, arith, eqb-true, le-leb}
 use lib.ListN.{length-replicate}
 use Rattle.std.proofs.lemmas.List.{get_or-take, get_or_past, get_or-replicate, length-take-le}
-use Rattle.std.proofs.lemmas.Bool.{cases_lt}
+use Rattle.std.proofs.lemmas.Bool.{cases_lt, cond-true}
 use Rattle.rack.specs.declared.rack.Rack.{Rack}
 use Rattle.rack.specs.Racks.{node_count, channel_count, tail, tail_port, head, Host, Switch}
 use Rattle.rack.proofs.Facts.{host_no_switch, same_port, tail_port_within}
 use Rattle.routing.specs.Sources.{enters_switch}
 use Rattle.routing.specs.Turns.{turns, row_start, stored_lane, lane_bytes}
 use Rattle.routing.specs.Paths.{PairOf}
-use Rattle.routing.proofs.Sourced.{cond_true}
 use Rattle.routing.proofs.Tests.{both_snd, turns_below, turns_enters, entered}
 use Rattle.builder.specs.Method.{PathOf, Middle, entry_place, Tables, blank, PairBuilt, Taken, Receivers, Senders}
 use Rattle.builder.specs.Laws.{EndsKeep0, FirstAndLast0}
@@ -28,7 +27,7 @@ module _ (r : Rack) where
   -- the entry of a turn, by its byte
   lane_byte : (lanes : List ℕ) (c d s : ℕ) → turns r c d ≡ true → lane_bytes (channel_count r) ≤ length lanes → stored_lane r lanes c d s ≡ min (get_or lanes (row_start c (tail_port r d) + s) 0) 7
   lane_byte lanes c d s turn long =
-      cond_true (turns r c d) _ 0 turn ∙ cond_true (leb (row_start c (tail_port r d) + 16) (length lanes)) (min (get_or lanes (row_start c (tail_port r d) + s) 0) 7) 0 (le-leb _ _ (row_inside r lanes c d turn long))
+      cond-true (turns r c d) _ 0 turn ∙ cond-true (leb (row_start c (tail_port r d) + 16) (length lanes)) (min (get_or lanes (row_start c (tail_port r d) + s) 0) 7) 0 (le-leb _ _ (row_inside r lanes c d turn long))
 
   -- two turns whose entries share a byte are the same turn
   same_turn : (a b c d s t : ℕ) → turns r a b ≡ true → turns r c d ≡ true → s < 16 → t < 16 → row_start a (tail_port r b) + s ≡ row_start c (tail_port r d) + t → (a ≡ c) × (b ≡ d)

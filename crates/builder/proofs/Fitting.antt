@@ -1,5 +1,5 @@
 -- Whether a path fits at a level, and what it claims there, middle turn by middle turn. Assumes nothing.
-use Rattle.std.proofs.Common.{◌≡◌, ℕ, ◌+◌, ◌-◌, ◌<◌, ◌≤◌, true, ◌⊎◌, List, length, get_or, set, sym, refl, ◌∙◌, subst, ⊎_elim, arith, length-set, get_or-set_other, get_or-set_same}
+use Rattle.std.proofs.Common.{◌≡◌, ℕ, ◌+◌, ◌-◌, ◌<◌, ◌≤◌, true, ◌⊎◌, List, length, get_or, set, sym, ◌∙◌, subst, ⊎_elim, arith, length-set, get_or-set_other, get_or-set_same}
 use lib.ListN.{length-map}
 use Rattle.std.proofs.lemmas.List.{get_or-map}
 use Rattle.std.proofs.lemmas.Bool.{cases_eq}
@@ -35,15 +35,9 @@ pub record Claiming (r : Rack) (path : List ℕ) (s n : ℕ) (was now : List ℕ
 
 module _ (r : Rack) (path : List ℕ) (s : ℕ) where
   module _ (lanes : List ℕ) where
-    pub fitting_start : Fitting r lanes path s 1
-    fitting_start = record { room = λ j a b. absurd (omega arith) }
-
     pub fitting_more : (n : ℕ) → Fitting r lanes path s n → Room r lanes path s n → Fitting r lanes path s (n + 1)
     fitting_more n f here =
         record { room = λ j a b. ⊎_elim (λ (e : j ≡ n). subst (Room r lanes path s) (sym e) here) (λ (ne : j ≡ n → ⊥). f.room j a (omega arith)) (cases_eq j n) }
-
-    pub fitting_end : (n : ℕ) → length path - 2 ≤ n → Fitting r lanes path s n → Fits r lanes path s
-    fitting_end n all f j m = f.room j m.0 (omega (arith, m.1))
 
     pub fitting_fails : (n : ℕ) → 1 ≤ n → n < length path - 2 → (Room r lanes path s n → ⊥) → Fits r lanes path s → ⊥
     fitting_fails n a b none fits = none (fits n (a, omega arith))
@@ -54,9 +48,6 @@ module _ (r : Rack) (path : List ℕ) (s : ℕ) where
       let p = tail_port_within r _ (turns_below r _ _ (pass.turning i m)) in
       let q = tail_port_within r _ (turns_below r _ _ (pass.turning j n)) in
       pass.once i j (omega (arith, m.1)) (omega (arith, n.1)) (rows _ _ _ _ s s p.0 p.1 q.0 q.1 low low e).0
-
-  pub claiming_start : (was : List ℕ) → Claiming r path s 1 was was
-  claiming_start was = record { long = refl; within = λ j a b. absurd (omega arith); given = λ j a b. absurd (omega arith); kept = λ k h. refl }
 
   pub claiming_more :
       RowsApart → Passes r path → s < 16 → (n : ℕ) (was now : List ℕ) → Middle path n → lane_bytes (channel_count r) ≤ length now → Claiming r path s n was now →
@@ -102,7 +93,3 @@ module _ (r : Rack) (steps : List Step) (j : ℕ) (x y : Step) (first : 1 ≤ j)
 
   pub claim_at : (lanes now : List ℕ) (s n : ℕ) → n ≡ j → now ≡ set lanes (row_start (get_or steps j x).channel.0 (tail_port r (get_or steps (j + 1) y).channel.0) + s) n → now ≡ set lanes (entry_place r (channels_of steps) s j) j
   claim_at lanes now s n e h = subst (λ m. now ≡ set lanes (entry_place r (channels_of steps) s j) m) e (rw (sym from_channel, sym to_channel) at h)
-
--- none of the levels below n, nor level n
-pub none_more : (P : ℕ → Type 0) (n m : ℕ) → m ≡ n → ((t : ℕ) → t < n → P t → ⊥) → (P m → ⊥) → (t : ℕ) → t < n + 1 → P t → ⊥
-none_more P n m e below here t l h = ⊎_elim (λ (q : t ≡ m). here (subst P q h)) (λ (ne : t ≡ m → ⊥). below t (omega arith) h) (cases_eq t m)

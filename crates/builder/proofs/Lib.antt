@@ -2,7 +2,6 @@ pub mod Rows
 pub mod Fitting
 pub mod Pathed
 pub mod Taking
-pub mod Wiping
 pub mod Rising
 pub mod Stopping
 pub mod Single

@@ -1,5 +1,6 @@
 -- The path of a pair by the source alone. Assumes nothing.
 use Rattle.std.proofs.Common.{◌≡◌, ℕ, zero, suc, ◌+◌, ◌-◌, ◌<◌, ◌≤◌, true, false, ◌⊎◌, List, [], ◌∷◌, length, get_or, Some, Option, sym, refl, ap, ◌∙◌, subst, ⊎_elim, arith}
+use Rattle.std.proofs.lemmas.Option.{same_Some}
 use Rattle.std.proofs.lemmas.List.{ext_get_or}
 use Rattle.std.proofs.lemmas.Bool.{cases_order}
 use Rattle.rack.specs.declared.rack.Rack.{Rack}
@@ -14,7 +15,7 @@ use Rattle.routing.specs.Turns.{turns}
 use Rattle.routing.specs.Paths.{Routing, Hop, hop, PairOf, behind, hop_at, OnPath, EndsAtHop}
 use Rattle.routing.specs.Walks.{Walked, WalkStops}
 use Rattle.routing.proofs.Tests.{enters_no}
-use Rattle.routing.proofs.Hops.{some_same, came, hop_last, from_first}
+use Rattle.routing.proofs.Hops.{came, hop_last, from_first}
 use Rattle.builder.specs.Method.{alone, channels_of, PathOf, Passes}
 use Rattle.builder.proofs.Fitting.{at_step, as_long}
 
@@ -45,7 +46,7 @@ into_host r c v host e = enters_no r c (λ w h. host_no_switch r v host (subst (
 
 module _ (r : Rack) (route : ℕ → ℕ → Option ℕ) where
   pub lane_0 : (c v i : ℕ) (h : Hop) → hop_at (alone r route) c v 0 i ≡ Some h → h.lane ≡ 0
-  lane_0 c v zero h e = ap (λ (x : Hop). x.lane) (sym (some_same _ _ e))
+  lane_0 c v zero h e = ap (λ (x : Hop). x.lane) (sym (same_Some _ _ e))
   lane_0 c v (suc i) h e = let b = came (alone r route) v 0 (hop_at (alone r route) c v 0 i) h e in ap (λ (x : Hop). x.lane) b.3.3
 
   same_hop : (a b q : ℕ) → a ≡ b → q ≡ 0 → hop a q ≡ hop b 0
@@ -95,7 +96,7 @@ module _ (r : Rack) (route : ℕ → ℕ → Option ℕ) where
         let after : suc j ≡ j + 1 = omega arith in
         let e = ap (hop_at (alone r route) first v 0) after ∙ hop_here (j + 1) m in
         let b = came (alone r route) v 0 (hop_at (alone r route) first v 0 j) _ e in
-        let k : b.0.channel ≡ get_or path j 0 = ap (λ (x : Hop). x.channel) (some_same _ _ (sym b.1 ∙ hop_here j (omega arith))) in
+        let k : b.0.channel ≡ get_or path j 0 = ap (λ (x : Hop). x.channel) (same_Some _ _ (sym b.1 ∙ hop_here j (omega arith))) in
         let d : b.3.0 ≡ get_or path (j + 1) 0 = ap (λ (x : Hop). x.channel) (sym b.3.3) in
         subst (λ x. turns r (get_or path j 0) x ≡ true) d (subst (λ x. turns r x b.3.0 ≡ true) k b.3.2)
 
@@ -128,4 +129,4 @@ module _ (r : Rack) (route : ℕ → ℕ → Option ℕ) where
         ext_get_or 0 p q long (λ i l.
         let x = hop_here u v pair p a i l in
         let y = from_first (alone r route) u v 0 (a.hops 0 a.some).0 i (hop (get_or q i 0) 0) pair.0 (a.hops 0 a.some).1 (b.hops i (omega (arith, long))) in
-        ap (λ (h : Hop). h.channel) (some_same _ _ (sym x ∙ y)))
+        ap (λ (h : Hop). h.channel) (same_Some _ _ (sym x ∙ y)))

@@ -2,13 +2,12 @@
 use Rattle.std.proofs.Common.{◌≡◌, ℕ, zero, suc, ◌+◌, ◌-◌, ◌*◌, ◌/◌, ◌%◌, ◌<◌, ◌≤◌, min, leb, ◌⊎◌, List, length, get_or, take, Option, sym, refl, ap, ◌∙◌, subst, inl, inr, ⊎_elim, mul_comm, arith, length-set, get_or-set_other, get_or-set_same, le-leb}
 use Rattle.std.proofs.lemmas.Nat.{mul-add-lt, div-mul-add, mod-mul-add}
 use Rattle.std.proofs.lemmas.List.{get_or-take, length-take-le}
-use Rattle.std.proofs.lemmas.Bool.{cases_eq, cases_lt}
+use Rattle.std.proofs.lemmas.Bool.{cases_eq, cases_lt, cond-true}
 use Rattle.rack.specs.declared.rack.Rack.{Rack}
 use Rattle.rack.specs.Racks.{node_count, channel_count, tail_port}
 use Rattle.rack.proofs.Facts.{host_below}
 use Rattle.routing.specs.Turns.{turns, row_start, lane_bytes}
 use Rattle.routing.specs.Paths.{PairOf}
-use Rattle.routing.proofs.Sourced.{cond_true}
 use Rattle.builder.specs.Method.{PathOf, Middle, Passes, entry_of, entry_place, Tables, blank, PairBuilt, Taken, Receivers, Senders}
 use Rattle.builder.specs.Outcomes.{InRange, LongEnough, needed}
 use Rattle.builder.specs.Laws.{Rises, LanesRise}
@@ -20,8 +19,8 @@ use Rattle.builder.proofs.Taking.{blank_long, pair_on_way}
 pub entry_byte : (r : Rack) (lanes path : List ℕ) (s j : ℕ) → Passes r path → lane_bytes (channel_count r) ≤ length lanes → Middle path j → entry_of r lanes path s j ≡ min (get_or lanes (entry_place r path s j) 0) 7
 entry_byte r lanes path s j pass long m =
     let turn = pass.turning j m in
-    cond_true (turns r (get_or path j 0) (get_or path (j + 1) 0)) _ 0 turn
-    ∙ cond_true (leb (row_start (get_or path j 0) (tail_port r (get_or path (j + 1) 0)) + 16) (length lanes)) (min (get_or lanes (entry_place r path s j) 0) 7) 0 (le-leb _ _ (row_inside r lanes (get_or path j 0) (get_or path (j + 1) 0) turn long))
+    cond-true (turns r (get_or path j 0) (get_or path (j + 1) 0)) _ 0 turn
+    ∙ cond-true (leb (row_start (get_or path j 0) (tail_port r (get_or path (j + 1) 0)) + 16) (length lanes)) (min (get_or lanes (entry_place r path s j) 0) 7) 0 (le-leb _ _ (row_inside r lanes (get_or path j 0) (get_or path (j + 1) 0) turn long))
 
 -- whether a place is among those of the turns below n
 among : (place : ℕ → ℕ) (k n : ℕ) → ((i : ℕ) × (1 ≤ i) × (i < n) × (k ≡ place i)) ⊎ ((i : ℕ) → 1 ≤ i → i < n → k ≡ place i → ⊥)

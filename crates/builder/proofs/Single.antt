@@ -7,19 +7,19 @@ use Rattle.rack.specs.Racks.{node_count}
 use Rattle.rack.proofs.Facts.{host_below}
 use Rattle.routing.specs.declared.pair.Pair.{Pair}
 use Rattle.routing.specs.Paths.{PairOf}
+use Rattle.routing.proofs.Determined.{same_nodes}
 use Rattle.builder.specs.declared.fault.BuildFault.{BuildFault}
 use Rattle.builder.specs.declared.fault.BuildFault.TheVariants.{Lanes, Tables as Short, Walk, Lane, Level, Memory}
-use Rattle.builder.specs.Method.{PathOf, Middle, entry_place, Lowest, Claimed, Tables, blank, Placed, PairBuilt, Taken, Receivers, Senders, Built}
+use Rattle.builder.specs.Method.{PathOf, Middle, entry_place, Lowest, Claimed, Tables, tables, blank, Placed, PairBuilt, Taken, Receivers, Senders, Built}
 use Rattle.builder.specs.Outcomes.{InRange, LongEnough, needed, Lacks, ReceiverLacks, FirstLacks, Outcome}
 use Rattle.builder.specs.Laws.{OneOutcome}
 use Rattle.builder.proofs.Pathed.{same_path}
 use Rattle.builder.proofs.Rising.{at_middle}
 use Rattle.builder.proofs.Stopping.{one_fault, no_fault}
 use Rattle.builder.proofs.Taking.{taken_on_way, row_on_way}
-use Rattle.builder.proofs.Wiping.{same_tables}
 
-same_pair : (p q : Pair) → p.sender.0 ≡ q.sender.0 → p.receiver.0 ≡ q.receiver.0 → p ≡ q
-same_pair p q a b = λ i. record { sender = record { 0 = a i }; receiver = record { 0 = b i } }
+same_tables : (a b x y : List ℕ) → a ≡ x → b ≡ y → tables a b ≡ tables x y
+same_tables a b x y p q = λ i. tables (p i) (q i)
 
 -- one of two numbers is below the other, or they are the same
 same_unless : (m n : ℕ) → (m < n → ⊥) → (n < m → ⊥) → m ≡ n
@@ -70,7 +70,7 @@ module _ (r : Rack) (route : ℕ → ℕ → Option ℕ) (count : ℕ) where
       let same : b.0 ≡ a.0 = one_row u n was b.0 a.0 b.1 a.1 in
       one_taken u n a.0 x y a.2 (subst (λ m. Taken r route count u n m y) same b.2)
 
-  one_all : (n : ℕ) (was x y : Tables) → Senders r route count n was x → Senders r route count n was y → x ≡ y
+  pub one_all : (n : ℕ) (was x y : Tables) → Senders r route count n was x → Senders r route count n was y → x ≡ y
   one_all zero was x y a b = a ∙ sym b
   one_all (suc n) was x y a b =
       let same : b.0 ≡ a.0 = one_all n was b.0 a.0 b.1 a.1 in
@@ -139,7 +139,7 @@ module _ (r : Rack) (route : ℕ → ℕ → Option ℕ) (count : ℕ) where
       let y = b.pair.receiver.0 in
       let same : y ≡ x = same_unless y x (λ l. not_passed u x was a.here f b l a.before) (λ l. not_passed u y was b.here e a l b.before) in
       let here : b.here ≡ a.here = one_row u x was b.here a.here (subst (λ k. Receivers r route count u k was b.here) same b.before) a.before in
-      let pair : b.pair ≡ a.pair = same_pair b.pair a.pair (b.sender ∙ sym a.sender) same in
+      let pair : b.pair ≡ a.pair = same_nodes b.pair a.pair (b.sender ∙ sym a.sender) same in
       one_lack a.pair (pair_there u was e a) a.here e f a.lacks (subst (λ q. Lacks r route count q a.here f) pair (subst (λ m. Lacks r route count b.pair m f) here b.lacks))
 
   -- so neither is its sender
@@ -149,13 +149,13 @@ module _ (r : Rack) (route : ℕ → ℕ → Option ℕ) (count : ℕ) where
       let same : w.0 ≡ a.there = one_all a.sender (blank r) w.0 a.there w.1.1.0 a.before in
       not_passed a.sender (node_count r) a.there w.1.0 f a.row (host_below r a.row.pair.receiver.0 a.row.hosts.1) (subst (λ m. Receivers r route count a.sender (node_count r) m w.1.0) same w.1.1.1)
 
-  one_first : (e f : BuildFault) → FirstLacks r route count e → FirstLacks r route count f → e ≡ f
+  pub one_first : (e f : BuildFault) → FirstLacks r route count e → FirstLacks r route count f → e ≡ f
   one_first e f a b =
       let same : b.sender ≡ a.sender = same_unless b.sender a.sender (λ l. sender_not_passed a.sender a.there f b l a.before) (λ l. sender_not_passed b.sender b.there e a l b.before) in
       let there : b.there ≡ a.there = one_all a.sender (blank r) b.there a.there (subst (λ k. Senders r route count k (blank r) b.there) same b.before) a.before in
       one_receiver a.sender a.there e f a.row (subst (λ m. ReceiverLacks r route count a.sender m f) there (subst (λ k. ReceiverLacks r route count k b.there f) same b.row))
 
-  built_lacks : (now : Tables) (f : BuildFault) → Built r route count now → FirstLacks r route count f → ⊥
+  pub built_lacks : (now : Tables) (f : BuildFault) → Built r route count now → FirstLacks r route count f → ⊥
   built_lacks now f t a = sender_not_passed (node_count r) now f a (host_below r a.sender a.row.hosts.0) t
 
   -- what an answer says of the tables, in three kinds

@@ -1,6 +1,7 @@
 -- A pair whose path is walked stops for one reason, or has a path. Assumes nothing.
 use Rattle.std.proofs.Common.{◌≡◌, ℕ, suc, ◌-◌, ◌<◌, true, false, cond, eqb, ◌⊎◌, List, length, Some, None, Option, sym, ap, ◌∙◌, subst, inl, inr, ⊎_elim, arith, eq-eqb, ne_eqb}
-use Rattle.std.proofs.lemmas.Bool.{cases_order, both_ways}
+use Rattle.std.proofs.lemmas.Option.{none-some, same_Some}
+use Rattle.std.proofs.lemmas.Bool.{cases_order, both_ways, cond-true, cond-false}
 use Rattle.rack.specs.declared.rack.Rack.{Rack}
 use Rattle.rack.specs.Racks.{channel_count, head}
 use Rattle.rack.proofs.Facts.{one_out}
@@ -11,8 +12,7 @@ use Rattle.routing.specs.Sources.{enters_switch}
 use Rattle.routing.specs.Turns.{turns}
 use Rattle.routing.specs.Paths.{Hop, PairOf, named, behind, hop_at, OnPath}
 use Rattle.routing.specs.Walks.{Stops, WalkStops}
-use Rattle.routing.proofs.Sourced.{cond_true, cond_false}
-use Rattle.routing.proofs.Hops.{some_none, some_same, behind_ends, gone, from_first}
+use Rattle.routing.proofs.Hops.{behind_ends, gone, from_first}
 use Rattle.builder.specs.Method.{alone, PathOf}
 use Rattle.builder.proofs.Pathed.{lane_0, into_host}
 
@@ -48,15 +48,15 @@ module _ (r : Rack) (route : ℕ → ℕ → Option ℕ) (p : Pair) (pair : Pair
     astray : Astray last
 
   stops_none : (h : Hop) → enters_switch r h.channel ≡ true → route h.channel p.receiver.0 ≡ None → behind (alone r route) p.receiver.0 0 (Some h) ≡ None
-  stops_none h sw nx = cond_true _ _ _ sw ∙ ap (named (alone r route) p.receiver.0 0 h.channel) nx
+  stops_none h sw nx = cond-true _ _ _ sw ∙ ap (named (alone r route) p.receiver.0 0 h.channel) nx
 
   stops_other : (h : Hop) (d : ℕ) → enters_switch r h.channel ≡ true → route h.channel p.receiver.0 ≡ Some d → turns r h.channel d ≡ false → behind (alone r route) p.receiver.0 0 (Some h) ≡ None
-  stops_other h d sw nx tn = cond_true _ _ _ sw ∙ ap (named (alone r route) p.receiver.0 0 h.channel) nx ∙ cond_false _ _ _ tn
+  stops_other h d sw nx tn = cond-true _ _ _ sw ∙ ap (named (alone r route) p.receiver.0 0 h.channel) nx ∙ cond-false _ _ _ tn
 
   next_fault : (i : ℕ) (h : Hop) (x : Option ℕ) → enters_switch r h.channel ≡ true → suc i < channel_count r → route h.channel p.receiver.0 ≡ x → fault_at i h ≡ by_next (suc i) x
   unfolding fault_at
   next_fault i h x sw l nx =
-      cond_true _ _ _ sw ∙ cond_false _ _ _ (ne_eqb (suc i) (channel_count r) (λ e. omega arith)) ∙ ap (by_next (suc i)) nx
+      cond-true _ _ _ sw ∙ cond-false _ _ _ (ne_eqb (suc i) (channel_count r) (λ e. omega arith)) ∙ ap (by_next (suc i)) nx
 
   -- what is told of a hop that was not reached
   module _ (q : Pair) (k : ℕ) (h : Hop) (s : Stops (alone r route) 8 p q 0 k h) where
@@ -95,7 +95,7 @@ module _ (r : Rack) (route : ℕ → ℕ → Option ℕ) (p : Pair) (pair : Pair
           hops = k - 1;
           last = h;
           here = (before, omega arith, inr i);
-          why = ap (λ x. Endless x k) s.told ∙ ap (Endless p) e ∙ sym (cond_true _ _ _ s.switch ∙ cond_true _ _ _ (eq-eqb (suc (k - 1)) (channel_count r) i));
+          why = ap (λ x. Endless x k) s.told ∙ ap (Endless p) e ∙ sym (cond-true _ _ _ s.switch ∙ cond-true _ _ _ (eq-eqb (suc (k - 1)) (channel_count r) i));
           astray = inl s.switch;
         }
 
@@ -106,7 +106,7 @@ module _ (r : Rack) (route : ℕ → ℕ → Option ℕ) (p : Pair) (pair : Pair
         hops = k;
         last = h;
         here = (e, l, inl (ap (behind (alone r route) p.receiver.0 0) e ∙ behind_ends (alone r route) p.receiver.0 0 h sw));
-        why = ap (λ x. OtherHost x k) same ∙ sym (cond_false _ _ _ sw);
+        why = ap (λ x. OtherHost x k) same ∙ sym (cond-false _ _ _ sw);
         astray = inr other;
       }
 
@@ -123,14 +123,14 @@ module _ (r : Rack) (route : ℕ → ℕ → Option ℕ) (p : Pair) (pair : Pair
   no_later : (i j : ℕ) (h k : Hop) → Last i h → Last j k → i < j → ⊥
   no_later i j h k a b l =
       ⊎_elim
-      (λ (e : at (suc i) ≡ None). some_none k (sym b.0 ∙ gone (alone r route) p.receiver.0 0 (one_out r p.sender.0 pair.0).0 (suc i) j (omega arith) e))
+      (λ (e : at (suc i) ≡ None). none-some k (sym (gone (alone r route) p.receiver.0 0 (one_out r p.sender.0 pair.0).0 (suc i) j (omega arith) e) ∙ b.0))
       (λ (e : suc i ≡ channel_count r). omega (arith, b.1))
       a.2
 
   pub one_last : (i j : ℕ) (h k : Hop) → Last i h → Last j k → (i ≡ j) × (h ≡ k)
   one_last i j h k a b =
       let same : i ≡ j = ⊎_elim (λ (e : i ≡ j). e) (λ (d : (i < j) ⊎ (j < i)). ⊎_elim (λ (l : i < j). absurd (no_later i j h k a b l)) (λ (l : j < i). absurd (no_later j i k h b a l)) d) (cases_order i j) in
-      (same, some_same h k (sym a.0 ∙ ap at same ∙ b.0))
+      (same, same_Some h k (sym a.0 ∙ ap at same ∙ b.0))
 
   -- and so one fault
   pub one_fault : (e f : WalkFault) → WalkStops (alone r route) 8 p 0 (channel_count r) e → WalkStops (alone r route) 8 p 0 (channel_count r) f → e ≡ f

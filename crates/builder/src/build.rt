@@ -14,106 +14,99 @@ use rack::rack::Rack;
 use routing::one_lane::OneLane;
 use routing::pair::Pair;
 use routing::plan::Plan;
-use routing::rows::{LEVELS, PORTS};
+use routing::sizes::{lane_bytes, node_pairs};
 use routing::source::ForwardingSource;
 use routing::walk::{Step, walk};
 use std::alloc::Global;
 
 // What all pairs of a build share.
-// The path list stands beside it: in here each call would change it, and have to say that rack, source and lane count stay.
 #[derive(Drop)]
-struct Builder<'a, S> {
+struct Given<'a, S> {
     rack: &'a Rack,
     source: &'a S,
     lane_count: u8,
     ghost range: { InRange lane_count },
 }
 
+// What all pairs share, and a list with room for the path of any one of them.
+// Each method says that what they share stays, since it may change all that it is lent.
+#[derive(Drop)]
+struct Builder<'a, S> {
+    given: &'a Given<'a, S>,
+    path: Vec<Step>,
+    ghost cap: { channel_count given.now.rack.now ≤ vec_capacity path },
+}
+
 impl<S: ForwardingSource> Builder<'_, S> {
     // The path of a pair, as the source alone names it.
-    fn walk(&self, pair: Pair, path: &mut Vec<Step>) -> Result<(), BuildFault>
-        requires room { channel_count self.now.rack.now ≤ vec_capacity path.old }
-        ensures answer { MatchResult result (λ _. PathOf self.now.rack.now (S.ForwardingSource.route self.now.source.now) pair.sender.0 pair.receiver.0 (channels_of path.new.items)) (NoPath self.now.rack.now (S.ForwardingSource.route self.now.source.now) pair) }
-        ensures room { channel_count self.now.rack.now ≤ vec_capacity path.new }
+    fn walk(&mut self, pair: Pair) -> Result<(), BuildFault>
+        ensures answer { MatchResult result (λ _. PathOf self.old.given.now.rack.now (S.ForwardingSource.route self.old.given.now.source.now) pair.sender.0 pair.receiver.0 (channels_of self.new.path.items)) (NoPath self.old.given.now.rack.now (S.ForwardingSource.route self.old.given.now.source.now) pair) }
+        ensures given { self.new.given ≡ self.old.given }
     {
         let plan = Plan {
-            rack: self.rack,
-            source: self.source,
+            rack: self.given.rack,
+            source: self.given.source,
             map: &OneLane,
             levels: &[],
             lanes: 8,
         };
-        walk(&plan, pair, Level::zero(), path)?;
+        walk(&plan, pair, Level::zero(), &mut self.path)?;
         Ok(())
     }
 
     // One pair: its path gets the lowest level that has room for it, and its lanes there.
-    fn pair(
-        &self,
-        pair: Pair,
-        path: &mut Vec<Step>,
-        lanes: &mut [u8],
-        levels: &mut [u8],
-    ) -> Result<(), BuildFault>
-        requires hosts { PairOf self.now.rack.now pair.sender.0 pair.receiver.0 }
-        requires long { LongEnough self.now.rack.now (tables lanes.old levels.old) }
-        requires room { channel_count self.now.rack.now ≤ vec_capacity path.old }
-        ensures answer { MatchResult result (λ _. PairBuilt self.now.rack.now (S.ForwardingSource.route self.now.source.now) self.now.lane_count pair.sender.0 pair.receiver.0 (tables lanes.old levels.old) (tables lanes.new levels.new)) (Lacks self.now.rack.now (S.ForwardingSource.route self.now.source.now) self.now.lane_count pair (tables lanes.old levels.old)) }
-        ensures room { channel_count self.now.rack.now ≤ vec_capacity path.new }
+    fn pair(&mut self, pair: Pair, lanes: &mut [u8], levels: &mut [u8]) -> Result<(), BuildFault>
+        requires hosts { PairOf self.old.given.now.rack.now pair.sender.0 pair.receiver.0 }
+        requires long { LongEnough self.old.given.now.rack.now (tables lanes.old levels.old) }
+        ensures answer { MatchResult result (λ _. PairBuilt self.old.given.now.rack.now (S.ForwardingSource.route self.old.given.now.source.now) self.old.given.now.lane_count pair.sender.0 pair.receiver.0 (tables lanes.old levels.old) (tables lanes.new levels.new)) (Lacks self.old.given.now.rack.now (S.ForwardingSource.route self.old.given.now.source.now) self.old.given.now.lane_count pair (tables lanes.old levels.old)) }
+        ensures given { self.new.given ≡ self.old.given }
     {
-        self.walk(pair, path)?;
-        if path.len() > usize::from(self.lane_count) + 2 {
+        let given = self.given;
+        self.walk(pair)?;
+        if self.path.len() > usize::from(given.lane_count) + 2 {
             return Err(BuildFault::Lane { pair });
         }
-        let Some(level) = lowest_level(self.rack, lanes, path) else {
-            return Err(BuildFault::Level { pair });
-        };
-        claim_all(self.rack, lanes, path, level);
-        levels[pair.place(self.rack)] = level.number();
+        let level = lowest_level(given.rack, lanes, &self.path).ok_or(BuildFault::Level { pair })?;
+        claim_all(given.rack, lanes, &self.path, level);
+        levels[pair.place(given.rack)] = level.number();
         Ok(())
     }
 
     // The pairs of one sender, by ascending receiver.
     fn sender(
-        &self,
+        &mut self,
         sender: Node,
-        path: &mut Vec<Step>,
         lanes: &mut [u8],
         levels: &mut [u8],
     ) -> Result<(), BuildFault>
-        requires long { LongEnough self.now.rack.now (tables lanes.old levels.old) }
-        requires room { channel_count self.now.rack.now ≤ vec_capacity path.old }
-        ensures answer { MatchResult result (λ _. Receivers self.now.rack.now (S.ForwardingSource.route self.now.source.now) self.now.lane_count sender.0 (node_count self.now.rack.now) (tables lanes.old levels.old) (tables lanes.new levels.new)) (ReceiverLacks self.now.rack.now (S.ForwardingSource.route self.now.source.now) self.now.lane_count sender.0 (tables lanes.old levels.old)) }
-        ensures room { channel_count self.now.rack.now ≤ vec_capacity path.new }
+        requires { LongEnough self.old.given.now.rack.now (tables lanes.old levels.old) }
+        ensures answer { MatchResult result (λ _. Receivers self.old.given.now.rack.now (S.ForwardingSource.route self.old.given.now.source.now) self.old.given.now.lane_count sender.0 (node_count self.old.given.now.rack.now) (tables lanes.old levels.old) (tables lanes.new levels.new)) (ReceiverLacks self.old.given.now.rack.now (S.ForwardingSource.route self.old.given.now.source.now) self.old.given.now.lane_count sender.0 (tables lanes.old levels.old)) }
+        ensures given { self.new.given ≡ self.old.given }
     {
-        for v in 0..self.rack.node_count() as u16 {
+        let given = self.given;
+        for v in 0..given.rack.node_count() as u16 {
             let receiver = Node(v);
             let pair = Pair { sender, receiver };
-            if pair.joins_hosts(self.rack) {
-                self.pair(pair, path, lanes, levels)?;
+            if pair.joins_hosts(given.rack) {
+                self.pair(pair, lanes, levels)?;
             }
         }
         Ok(())
     }
 
     // All pairs, by ascending sender and then receiver, from tables that are all 0.
-    fn all(
-        &self,
-        path: &mut Vec<Step>,
-        lanes: &mut [u8],
-        levels: &mut [u8],
-    ) -> Result<(), BuildFault>
-        requires zeros { tables lanes.old levels.old ≡ blank self.now.rack.now }
-        requires room { channel_count self.now.rack.now ≤ vec_capacity path.old }
-        ensures { MatchResult result (λ _. Senders self.now.rack.now (S.ForwardingSource.route self.now.source.now) self.now.lane_count (node_count self.now.rack.now) (blank self.now.rack.now) (tables lanes.new levels.new)) (FirstLacks self.now.rack.now (S.ForwardingSource.route self.now.source.now) self.now.lane_count) }
+    fn all(&mut self, lanes: &mut [u8], levels: &mut [u8]) -> Result<(), BuildFault>
+        requires { tables lanes.old levels.old ≡ blank self.old.given.now.rack.now }
+        ensures { MatchResult result (λ _. Senders self.old.given.now.rack.now (S.ForwardingSource.route self.old.given.now.source.now) self.old.given.now.lane_count (node_count self.old.given.now.rack.now) (blank self.old.given.now.rack.now) (tables lanes.new levels.new)) (FirstLacks self.old.given.now.rack.now (S.ForwardingSource.route self.old.given.now.source.now) self.old.given.now.lane_count) }
     {
-        for u in 0..self.rack.node_count() as u16 {
-            self.sender(Node(u), path, lanes, levels)?;
+        for u in 0..self.given.rack.node_count() as u16 {
+            self.sender(Node(u), lanes, levels)?;
         }
         Ok(())
     }
 }
 
+// The two tables are lent side by side, here and in the methods above: in a struct each method would have to say that they are still the same tables.
 // Fills the lane table and the path table; where a path, a lane or a level is lacking, the needed places of both are 0 and the first pair that lacks it is told.
 pub fn build<S: ForwardingSource>(
     heap: Global,
@@ -130,22 +123,23 @@ pub fn build<S: ForwardingSource>(
     if !(1..=8).contains(&lane_count) {
         return Err(BuildFault::Lanes);
     }
-    let rows = LEVELS * PORTS * rack.channel_count();
-    let pairs = rack.node_count() * rack.node_count();
+    let rows = lane_bytes(rack);
+    let pairs = node_pairs(rack);
     if lanes.len() < rows || levels.len() < pairs {
         return Err(BuildFault::Tables);
     }
-    let mut path = Vec::with_capacity(heap, rack.channel_count())?;
+    let path = Vec::with_capacity(heap, rack.channel_count())?;
     let lanes = &mut lanes[..rows];
     let levels = &mut levels[..pairs];
     lanes.fill(0);
     levels.fill(0);
-    let builder = Builder {
+    let given = &Given {
         rack,
         source,
         lane_count,
     };
-    let built = builder.all(&mut path, lanes, levels);
+    let mut builder = Builder { given, path };
+    let built = builder.all(lanes, levels);
     if built.is_err() {
         lanes.fill(0);
         levels.fill(0);

@@ -64,7 +64,7 @@ impl BuildFault {
         }
     }
 
-    // The fault of a walk, as it was handed up. Three layers have this question, and no function asks it of more than one: a trait would say it a fourth time.
+    // The fault of a walk, as it was handed up. Three layers have this question; a trait would leave each of them this body.
     pub fn walk(self) -> Option<WalkFault>
         ensures { result ≡ (build_refusal self).walk }
     {

@@ -31,14 +31,9 @@ pub fn fits(rack: &Rack, lanes: &[u8], path: &[Step], level: Level) -> bool
 pub fn lowest_level(rack: &Rack, lanes: &[u8], path: &[Step]) -> Option<Level>
     ensures { MatchOption result (NoLevel rack.now lanes.now (channels_of path.now)) (λ s. Lowest rack.now lanes.now (channels_of path.now) s.number) }
 {
-    // no chain: one of `filter_map` and `find` says no more than this
-    for number in 0..16 {
-        let level = Level::new(number)?;
-        if fits(rack, lanes, path, level) {
-            return Some(level);
-        }
-    }
-    None
+    (0..16)
+        .filter_map(Level::new)
+        .find(|level| fits(rack, lanes, path, *level))
 }
 
 // Sets the turn's entry at the level to the lane: its row is taken out, changed and put back.
@@ -67,6 +62,7 @@ pub fn claim_all(rack: &Rack, lanes: &mut [u8], path: &[Step], level: Level)
     requires long { lane_bytes (channel_count rack.now) ≤ length lanes.old }
     ensures { Claimed rack.now (channels_of path.now) level.number lanes.old lanes.new }
 {
+    // by number: the turn's place is its lane
     for j in 1..path.len().saturating_sub(2) {
         let lane = Lane::new(j as u8).unwrap();
         let (arriving, leaving) = (path[j].channel, path[j + 1].channel);

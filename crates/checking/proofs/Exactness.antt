@@ -1,5 +1,7 @@
 -- The marks of all pairs are the dependencies of the plan. Assumes nothing.
 use Rattle.std.proofs.Common.{◌≡◌, ℕ, suc, ◌+◌, ◌*◌, ◌/◌, ◌%◌, ◌<◌, ◌≤◌, true, ◌↔◌, List, get_or, sym, refl, ap, ◌∙◌, subst, arith, eqb-true}
+use Rattle.std.proofs.lemmas.Option.{same_Some}
+use Rattle.std.proofs.lemmas.Bool.{cond-true}
 use Rattle.rack.specs.Racks.{node_count, channel_count, head, tail, tail_port, LeavingBy}
 use Rattle.rack.proofs.Facts.{host_below, tail_port_within, same_port}
 use Rattle.ranking.specs.Graphs.{Ranked, Ringed}
@@ -8,8 +10,7 @@ use Rattle.routing.specs.Sources.{enters_switch}
 use Rattle.routing.specs.Turns.{turns, turn_place, turn_count}
 use Rattle.routing.specs.Paths.{Routing, Hop, PairOf, hop_at}
 use Rattle.routing.proofs.Tests.{both_snd, turns_below, turns_enters, entered}
-use Rattle.routing.proofs.Sourced.{cond_true}
-use Rattle.routing.proofs.Hops.{some_same, came, hop_below, from_first}
+use Rattle.routing.proofs.Hops.{came, hop_below, from_first}
 use Rattle.checking.specs.Words.{bit, word_of, FollowedBy}
 use Rattle.checking.specs.Plans.{level_at, On, virtual, Follows, AllPairs, Exact}
 use Rattle.checking.specs.Marks.{AllSay}
@@ -31,7 +32,7 @@ module _ (g : Routing) (levels : List ℕ) (lanes : ℕ) (few : lanes ≤ 8) (fi
       let c = on.0 in
       let later = from_first g u v s c (suc i) o pair.0 on.1 then in
       let b = came g v s (hop_at g c v s i) o later in
-      let same : b.0 ≡ h = some_same _ _ (sym b.1 ∙ on.2) in
+      let same : b.0 ≡ h = same_Some _ _ (sym b.1 ∙ on.2) in
       let t = b.3 in
       let to : o.channel ≡ t.0 = ap (λ (x : Hop). x.channel) t.3 in
       let turn = subst (λ m. turns g.rack h.channel m ≡ true) (sym to) (subst (λ (x : Hop). turns g.rack x.channel t.0 ≡ true) same t.2) in
@@ -102,7 +103,7 @@ module _ (g : Routing) (levels : List ℕ) (lanes : ℕ) (few : lanes ≤ 8) (fi
         let ld = turns_below g.rack c d t in
         let ports = tail_port_within g.rack d ld in
         let leaves = eqb-true (tail g.rack d) (head g.rack c) (both_snd _ _ (both_snd (enters_switch g.rack c) _ t)) in
-        let word : word_of g.rack table c d ≡ get_or table (turn_place c (tail_port g.rack d)) 0 = cond_true _ _ _ t in
+        let word : word_of g.rack table c d ≡ get_or table (turn_place c (tail_port g.rack d)) 0 = cond-true _ _ _ t in
         let found = (exact c (tail_port g.rack d) (x % 8) (y % 8) sw.0 ports.0 ports.1 (omega arith) (omega arith)).0 (subst (λ w. bit w (8 * (x % 8) + y % 8) ≡ true) word f.2) in
         let same : found.0 ≡ d = same_port g.rack (head g.rack c) (tail_port g.rack d) found.0 d found.1 ((ld, leaves), refl) in
         let xe : 8 * c + x % 8 ≡ x = omega arith in
@@ -120,7 +121,7 @@ module _ (g : Routing) (levels : List ℕ) (lanes : ℕ) (few : lanes ≤ 8) (fi
         let yq : y % 8 ≡ f.other.lane = omega (arith, f.to, t.high) in
         let ports = tail_port_within g.rack d t.next in
         let set = (exact c (tail_port g.rack d) f.one.lane f.other.lane t.below ports.0 ports.1 t.low t.high).1 (d, ((t.next, t.leaves), refl), subst (λ n. Follows g levels n (virtual f.other)) f.from (subst (Follows g levels x) f.to f)) in
-        let word : word_of g.rack table c d ≡ get_or table (turn_place c (tail_port g.rack d)) 0 = cond_true _ _ _ t.turn in (
+        let word : word_of g.rack table c d ≡ get_or table (turn_place c (tail_port g.rack d)) 0 = cond-true _ _ _ t.turn in (
           omega (arith, f.from, t.low, t.below),
           omega (arith, f.to, t.high, t.next),
           rw (xc, xv, yd, yq) (subst (λ w. bit w (8 * f.one.lane + f.other.lane) ≡ true) (sym word) set),

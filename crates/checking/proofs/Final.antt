@@ -16,7 +16,7 @@ use Rattle.routing.specs.Sources.{enters_switch}
 use Rattle.routing.specs.Walks.{WalkStops}
 use Rattle.routing.proofs.Determined.{stopped_undelivered}
 use Rattle.routing.proofs.Tests.{both_snd, turns_below, turns_enters, entered}
-use Rattle.routing.proofs.Sourced.{cond_true}
+use Rattle.std.proofs.lemmas.Bool.{cond-true}
 use Rattle.ranking.specs.declared.faults.RankFault.{RankFault}
 use Rattle.ranking.specs.declared.faults.RankFault.TheVariants.{Tables as ShortTables, Ring as RingFound}
 use Rattle.ranking.specs.Graphs.{NoRing, Room, Ranked, Answered}
@@ -116,7 +116,7 @@ bare_free r table n top s t size ranked =
     let sw = entered r (x / 8) (turns_enters r (x / 8) (y / 8) turn) in
     let ld = turns_below r (x / 8) (y / 8) turn in
     let leaves = eqb-true (tail r (y / 8)) (head r (x / 8)) (both_snd _ _ (both_snd (enters_switch r (x / 8)) _ turn)) in
-    let word : word_of r table (x / 8) (y / 8) ≡ get_or table (turn_place (x / 8) (tail_port r (y / 8))) 0 = cond_true _ _ _ turn in
+    let word : word_of r table (x / 8) (y / 8) ≡ get_or table (turn_place (x / 8) (tail_port r (y / 8))) 0 = cond-true _ _ _ turn in
     ranks_rise (ChannelFollowedBy r table) (x / 8) (y / 8) _ _ (ranked.ranks (x / 8) (omega (arith, sw.0))) (ranked.ranks (y / 8) (omega arith))
     (sw.0, ld, leaves, λ none. both_ways (bit (word_of r table (x / 8) (y / 8)) (8 * (x % 8) + y % 8)) (ap (λ w. bit w (8 * (x % 8) + y % 8)) (word ∙ none) ∙ bit_zero (8 * (x % 8) + y % 8)) f.2))
 

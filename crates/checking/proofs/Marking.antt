@@ -1,5 +1,6 @@
 -- From the list that a walk gives to the marks of a pair's path. Assumes nothing.
 use Rattle.std.proofs.Common.{◌≡◌, ℕ, suc, ◌+◌, ◌-◌, ◌<◌, ◌≤◌, true, false, List, length, get_or, drop, Some, sym, ap, ◌∙◌, subst, inl, inr, ⊎_elim, arith, length-drop}
+use Rattle.std.proofs.lemmas.Option.{same_Some}
 use Rattle.std.specs.List.{zip}
 use Rattle.std.proofs.lemmas.Slice.Zip.{length-zip, get_or-zip}
 use Rattle.std.proofs.lemmas.List.{get_or_read}
@@ -15,7 +16,7 @@ use Rattle.routing.specs.Turns.{turns}
 use Rattle.routing.specs.Paths.{Routing, Hop, hop_at, OnPath}
 use Rattle.routing.specs.Walks.{hop_of, Walked}
 use Rattle.routing.proofs.Tests.{enters_no}
-use Rattle.routing.proofs.Hops.{some_same, came, hop_last, from_first}
+use Rattle.routing.proofs.Hops.{came, hop_last, from_first}
 use Rattle.checking.specs.Plans.{On, level_at, FinePair}
 use Rattle.checking.specs.Marks.{Adds, Says, ListSays, PairSays}
 use Rattle.checking.proofs.Adding.{adds_both, adds_none}
@@ -76,7 +77,7 @@ module _ (g : Routing) (levels : List ℕ) (lanes : ℕ) (p : Pair) (s : ℕ) (p
   at_hop i h on = from_first g u v s first i h w.pair.0 leaving on
 
   listed : (i : ℕ) (h : Hop) (d : Step) → i < length path → OnPath g u v s i h → h ≡ hop_of (get_or path i d)
-  listed i h d l on = some_same _ _ (sym (at_hop i h on) ∙ at_hop i _ (w.lists i d l))
+  listed i h d l on = same_Some _ _ (sym (at_hop i h on) ∙ at_hop i _ (w.lists i d l))
 
   -- the last hop enters the receiver, and so no switch
   last_ends : enters_switch g.rack w.ends.0.channel ≡ false
@@ -95,7 +96,7 @@ module _ (g : Routing) (levels : List ℕ) (lanes : ℕ) (p : Pair) (s : ℕ) (p
       let here = at_hop i (hop_of (get_or path i d)) (w.lists i d (omega arith)) in
       let next = subst (λ m. hop_at g first v s m ≡ Some (hop_of (get_or path (i + 1) d))) n (at_hop (i + 1) (hop_of (get_or path (i + 1) d)) (w.lists (i + 1) d l)) in
       let b = came g v s (hop_at g first v s i) (hop_of (get_or path (i + 1) d)) next in
-      let same : b.0 ≡ hop_of (get_or path i d) = some_same _ _ (sym b.1 ∙ here) in
+      let same : b.0 ≡ hop_of (get_or path i d) = same_Some _ _ (sym b.1 ∙ here) in
       let t = b.3 in
       subst (λ m. turns g.rack (get_or path i d).channel.0 m ≡ true) (sym (ap (λ (x : Hop). x.channel) t.3)) (subst (λ (x : Hop). turns g.rack x.channel t.0 ≡ true) same t.2)
 
@@ -138,7 +139,7 @@ module _ (g : Routing) (levels : List ℕ) (lanes : ℕ) (p : Pair) (s : ℕ) (p
               ⊎_elim
               (λ (e : i ≡ 0).
               let start = at_hop 0 h (subst (λ m. OnPath g u v s m h) e (on_from i h on)) in
-              let lane : 0 ≡ h.lane = ap (λ (x : Hop). x.lane) (some_same _ _ start) in
+              let lane : 0 ≡ h.lane = ap (λ (x : Hop). x.lane) (same_Some _ _ start) in
               omega arith)
               (λ (ne : i ≡ 0 → ⊥). w.low i h (omega arith) (on_from i h on))
               (cases_eq i 0);

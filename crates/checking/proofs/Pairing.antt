@@ -1,12 +1,10 @@
 -- Pair by pair: what is fine so far, and what is marked. Assumes nothing.
-use Rattle.std.proofs.Common.{◌≡◌, ℕ, ◌+◌, ◌<◌, ◌≤◌, true, false, not, eqb, List, length, get_or, replicate, sym, ap, ◌∙◌, subst, inl, inr, ⊎_elim, arith, eq-eqb, ne_eqb}
-use lib.ListN.{length-replicate}
-use borrow.Author.Tests.{both_ways}
-use Rattle.std.proofs.lemmas.List.{get_or-replicate, get_or_past}
+use Rattle.std.proofs.Common.{◌≡◌, ℕ, ◌+◌, ◌<◌, ◌≤◌, true, List, length, get_or, replicate, sym, ap, ◌∙◌, subst, inl, inr, ⊎_elim, arith}
+use Rattle.std.proofs.lemmas.List.{get_or-replicate, get_or_past, length-replicate}
 use Rattle.routing.specs.Turns.{turn_count}
 use Rattle.checking.specs.Words.{bit}
 use Rattle.checking.proofs.Scans.{bit_zero}
-use Rattle.std.proofs.lemmas.Bool.{cases_eq, cases_lt}
+use Rattle.std.proofs.lemmas.Bool.{both_ways, cases_eq, cases_lt}
 use Rattle.rack.specs.declared.numbers.Node.{Node}
 use Rattle.rack.specs.Racks.{node_count, channel_count, Host}
 use Rattle.rack.proofs.Facts.{host_below}
@@ -19,13 +17,6 @@ use Rattle.checking.specs.declared.fault.CheckFault.{CheckFault}
 use Rattle.checking.specs.Plans.{FinePair, FirstFault}
 use Rattle.checking.specs.Marks.{Adds, PairSays, SenderSays, SenderFine, SenderFault, AllSay, AllFine, Collected}
 use Rattle.checking.proofs.Adding.{adds_both, adds_none}
-
--- numbers that a test tells apart, or does not
-pub differs : (v u : ℕ) → not (eqb v u) ≡ true → u ≡ v → ⊥
-differs v u h e = both_ways (not (eqb v u)) (ap not (eq-eqb v u (sym e))) h
-
-pub agrees : (v u : ℕ) → not (eqb v u) ≡ false → u ≡ v
-agrees v u h = ⊎_elim (λ (e : v ≡ u). sym e) (λ (ne : v ≡ u → ⊥). absurd (both_ways (not (eqb v u)) h (ap not (ne_eqb v u ne)))) (cases_eq v u)
 
 -- the list had room, so memory was not wanting
 pub with_room : (g : Routing) (lanes : ℕ) (p : Pair) (s room : ℕ) (f : WalkFault) → channel_count g.rack ≤ room → WalkStops g lanes p s room f → WalkStops g lanes p s (channel_count g.rack) f

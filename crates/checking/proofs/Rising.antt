@@ -1,5 +1,6 @@
 -- Where lanes rise from switch to switch, there is no ring. Assumes nothing.
 use Rattle.std.proofs.Common.{◌≡◌, ℕ, ◌+◌, ◌/◌, ◌%◌, ◌<◌, ◌≤◌, cond, List, sym, ◌∙◌, subst, ⊎_elim, arith}
+use Rattle.std.proofs.lemmas.Bool.{cond-true, cond-false}
 use Rattle.rack.specs.declared.rack.Rack.{Rack}
 use Rattle.rack.specs.Racks.{head, tail, Host, Switch}
 use Rattle.rack.proofs.Facts.{host_or_switch, host_no_switch, tail_below, head_below}
@@ -8,7 +9,6 @@ use Rattle.ranking.proofs.Chains.{no_ring_from_rise}
 use Rattle.routing.specs.Sources.{is_end}
 use Rattle.routing.specs.Paths.{Routing, Hop}
 use Rattle.routing.proofs.Tests.{end_yes, end_no, entered, turns_enters}
-use Rattle.routing.proofs.Sourced.{cond_true, cond_false}
 use Rattle.checking.specs.Plans.{Follows, AllPairs, Rises}
 use Rattle.checking.proofs.Exactness.{Turned, turned}
 
@@ -18,13 +18,13 @@ order r c q = cond (is_end r (tail r c)) 0 (cond (is_end r (head r c)) 9 (1 + q)
 
 module _ (r : Rack) (c q : ℕ) where
   out : Host r (tail r c) → order r c q ≡ 0
-  out h = cond_true _ 0 _ (end_yes r (tail r c) h)
+  out h = cond-true _ 0 _ (end_yes r (tail r c) h)
 
   into : (Host r (tail r c) → ⊥) → Host r (head r c) → order r c q ≡ 9
-  into n h = cond_false _ 0 _ (end_no r (tail r c) n) ∙ cond_true _ 9 _ (end_yes r (head r c) h)
+  into n h = cond-false _ 0 _ (end_no r (tail r c) n) ∙ cond-true _ 9 _ (end_yes r (head r c) h)
 
   between : (Host r (tail r c) → ⊥) → (Host r (head r c) → ⊥) → order r c q ≡ 1 + q
-  between n m = cond_false _ 0 _ (end_no r (tail r c) n) ∙ cond_false _ 9 _ (end_no r (head r c) m)
+  between n m = cond-false _ 0 _ (end_no r (tail r c) n) ∙ cond-false _ 9 _ (end_no r (head r c) m)
 
 module _ (g : Routing) (levels : List ℕ) (lanes : ℕ) (few : lanes ≤ 8) (fine : AllPairs g levels lanes) (rises : Rises g levels) where
   abbrev r : Rack

@@ -1,4 +1,5 @@
 pub mod Words
+pub mod Searches
 pub mod Starts
 pub mod Plans
 pub mod Marks

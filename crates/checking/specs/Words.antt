@@ -21,7 +21,3 @@ FollowedBy r table x y =
 abbrev pub ChannelFollowedBy : Rack → List ℕ → ℕ → ℕ → Type 0
 ChannelFollowedBy r table c d =
     (c < channel_count r) × (d < channel_count r) × (tail r d ≡ head r c) × (slice_index table (turn_place c (tail_port r d)) ≢ 0)
-
--- from which lane on to look at channel c, to look at virtual channels from `from` on
-abbrev pub low_lane : ℕ → ℕ → ℕ
-low_lane c from = cond (c == from / 8) (from % 8) 0

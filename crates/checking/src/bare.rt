@@ -1,17 +1,22 @@
 // The bare check, over channels: a channel is followed by another if the word of their turn is not 0.
-ghost use Rattle.std.specs.Prelude.{◌≡◌, ◌<◌, Decides, ◌≢◌, slice_index};
+ghost use Rattle.std.specs.Prelude.{◌≡◌, ℕ, ◌<◌, Bool, List, Decides, ◌≢◌, slice_index};
+ghost use Rattle.std.specs.Iterator.{IsFinite};
+ghost use Rattle.rack.specs.declared.numbers.Channel.{Channel};
 ghost use Rattle.rack.specs.Racks.{channel_count, tail_port};
 ghost use Rattle.routing.specs.Turns.{turn_place};
 ghost use Rattle.std.proofs.Common.{arith};
+ghost use Rattle.ranking.specs.Graphs.{Next};
 ghost use Rattle.checking.specs.Words.{ChannelFollowedBy};
+ghost use Rattle.checking.specs.Searches.{GivesAscending, Computes, MarkedOf};
 ghost use Rattle.checking.specs.Answers.{BareChecked};
 
 use crate::fault::CheckFault;
-use crate::graph::{dependency_words, word_at};
+use crate::graph::word_at;
 use rack::numbers::Channel;
 use rack::rack::Rack;
 use rack::rack::ask::way_back;
 use ranking::{Graph, rank};
+use routing::sizes::dependency_words;
 
 #[derive(Clone, Copy)]
 pub struct Channels<'a> {
@@ -32,6 +37,21 @@ impl Channels<'_> {
     }
 }
 
+// The lowest of the channels, from `from` on, that is marked.
+fn first_marked<I, F>(mut channels: I, from: u16, is_marked: F) -> Option<u16>
+where
+    I: Iterator<Item = Channel> + Drop,
+    F: Fn(Channel) -> bool,
+    requires can { I.can_next channels }
+    requires ends { IsFinite (I.remaining channels) }
+    requires callable { F.IsAlwaysCallable is_marked }
+    ensures { (list : List Channel) (marked : ℕ → Bool) → GivesAscending I.next_gives channels list → Computes (F.post is_marked) marked → Next (MarkedOf list marked) from result }
+{
+    channels
+        .find(|channel| channel.0 >= from && is_marked(*channel))
+        .map(|channel| channel.0)
+}
+
 impl Graph for Channels<'_> {
     ghost size = { λ g. channel_count g.rack.now };
 
@@ -44,27 +64,24 @@ impl Graph for Channels<'_> {
     fn next_follower(&self, x: u16, from: u16) -> Option<u16> {
         let arriving = Channel(x);
         let ends = self.rack.ends(arriving)?;
-        let found = self.rack.leaving(ends.head.node).iter().copied().find(|leaving| {
-            leaving.0 >= from && self.is_marked(arriving, *leaving)
-        })?;
-        Some(found.0)
+        let channels = self.rack.leaving(ends.head.node).iter().copied();
+        first_marked(channels, from, |leaving| self.is_marked(arriving, leaving))
     }
 
     fn next_forerunner(&self, y: u16, from: u16) -> Option<u16> {
         let leaving = Channel(y);
         let ends = self.rack.ends(leaving)?;
-        let found = self
+        let channels = self
             .rack
             .leaving(ends.tail.node)
             .iter()
-            .map(|channel| way_back(*channel))
-            .find(|arriving| arriving.0 >= from && self.is_marked(*arriving, leaving))?;
-        Some(found.0)
+            .map(|channel| way_back(*channel));
+        first_marked(channels, from, |arriving| self.is_marked(arriving, leaving))
     }
 
     ghost within = { λ g x y h. (h.0, h.1) };
 
-    ghost small = { λ g. Prim.omega (arith, g.rack.now.few.1) };
+    ghost small = { λ g. Prim.omega (arith, g.rack.now.rules.0.1) };
 }
 
 // The greatest rank of a channel, where channels do not follow one another in a ring.

@@ -9,12 +9,13 @@ ghost use Rattle.checking.specs.Answers.{tables_at, Starts, Checked, ExactlySoun
 
 use crate::acceptance::Acceptance;
 use crate::fault::CheckFault;
-use crate::graph::{VirtualChannels, dependency_words, virtual_channels};
+use crate::graph::VirtualChannels;
 use crate::marks::Marker;
 use rack::rack::Rack;
 use ranking::rank;
 use routing::map::LaneMap;
 use routing::plan::Plan;
+use routing::sizes::{dependency_words, node_pairs, virtual_channels};
 use routing::source::ForwardingSource;
 use std::alloc::Global;
 
@@ -28,12 +29,11 @@ fn admissible<S: ForwardingSource, M: LaneMap>(
     ensures starts { OnOk result (Starts (routing_of S.route M.lanes plan.now) plan.now.levels.now plan.now.lanes (tables_at dependencies.now ranks.now ring.now)) }
     ensures refused { IfErr result (StartRefused plan.now.lanes (Long plan.now.rack.now (length plan.now.levels.now) (length dependencies.now) (length ranks.now) (length ring.now))) }
 {
-    if plan.lanes < 1 || plan.lanes > 8 {
+    if !(1..=8).contains(&plan.lanes) {
         return Err(CheckFault::Lanes);
     }
-    let nodes = plan.rack.node_count();
     let points = virtual_channels(plan.rack);
-    if plan.levels.len() < nodes * nodes
+    if plan.levels.len() < node_pairs(plan.rack)
         || dependencies.len() < dependency_words(plan.rack)
         || ranks.len() < points
         || ring.len() < points
@@ -77,6 +77,7 @@ fn settle<'x>(
 }
 
 // Accepts the plan if every pair is delivered on lanes below the lane count, with a level to 15, and no virtual channels follow one another in a ring.
+// The three tables are lent, and stand side by side for the same reason as the builder's.
 // Work grows with pairs times hops, and with dependencies times ranks.
 pub fn check<S: ForwardingSource, M: LaneMap>(
     heap: Global,

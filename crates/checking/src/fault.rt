@@ -46,8 +46,7 @@ impl From<RankFault> for CheckFault {
 impl From<AllocError> for CheckFault {
     ghost from_gives = { λ _ r. r ≡ Memory };
 
-    fn from(error: AllocError) -> CheckFault {
-        let AllocError = error;
+    fn from(_: AllocError) -> CheckFault {
         CheckFault::Memory
     }
 }
@@ -60,9 +59,9 @@ impl CheckFault {
         match self {
             CheckFault::Lanes => Some(10),
             CheckFault::Tables => Some(9),
-            CheckFault::Level { pair: _ } => Some(26),
+            CheckFault::Level { .. } => Some(26),
             CheckFault::Walk(_) => None,
-            CheckFault::Ring { length: _ } => Some(25),
+            CheckFault::Ring { .. } => Some(25),
             CheckFault::Memory => None,
         }
     }
@@ -77,7 +76,7 @@ impl CheckFault {
         }
     }
 
-    // The fault of a walk, as it was handed up. Three layers have this question, and no function asks it of more than one: a trait would say it a fourth time.
+    // The fault of a walk, as it was handed up. Three layers have this question; a trait would leave each of them this body.
     pub fn walk(self) -> Option<WalkFault>
         ensures { result ≡ (check_refusal self).walk }
     {

@@ -1,31 +1,21 @@
 // The channel dependency graph, over virtual channels, as a dependency table tells it.
-ghost use Rattle.std.specs.Prelude.{◌≡◌, ◌*◌, ◌≤◌, slice_index};
+ghost use Rattle.std.specs.Prelude.{◌≡◌, ℕ, ◌+◌, ◌*◌, ◌<◌, ◌/◌, ◌≤◌, ◌↔◌, List, ◌≢◌, slice_index};
+ghost use Rattle.std.specs.Iterator.{IsFinite};
+ghost use Rattle.rack.specs.declared.numbers.Channel.{Channel};
+ghost use Rattle.ranking.specs.Graphs.{Next};
 ghost use Rattle.rack.specs.Racks.{channel_count};
-ghost use Rattle.routing.specs.Turns.{turn_place, turn_count};
+ghost use Rattle.routing.specs.Turns.{turn_place};
 ghost use Rattle.std.proofs.Common.{arith};
 ghost use Rattle.checking.specs.Words.{word_of, FollowedBy};
+ghost use Rattle.checking.specs.Searches.{GivesAscending, Computes, SetOn};
 
 use crate::words::lowest;
 use rack::numbers::{Channel, Port};
 use rack::rack::Rack;
 use rack::rack::ask::way_back;
 use ranking::Graph;
-use routing::rows::{PORTS, turn, turn_port};
-
-// How many words a dependency table has on a rack: one for each turn.
-pub(crate) fn dependency_words(rack: &Rack) -> usize
-    ensures { result ≡ turn_count (channel_count rack.now) }
-{
-    PORTS * rack.channel_count()
-}
-
-// How many virtual channels a rack has: eight for each channel.
-pub(crate) fn virtual_channels(rack: &Rack) -> usize
-    ensures count { result ≡ 8 * channel_count rack.now }
-    ensures small { result ≤ 4096 }
-{
-    8 * rack.channel_count()
-}
+use routing::rows::{turn, turn_port};
+use routing::sizes::virtual_channels;
 
 #[derive(Clone, Copy)]
 pub struct VirtualChannels<'a> {
@@ -47,15 +37,39 @@ pub fn word(rack: &Rack, dependencies: &[u64], arriving: Channel, leaving: Chann
     turn_port(rack, arriving, leaving).map_or(0, |port| word_at(dependencies, arriving, port))
 }
 
-// From which lane on to look at a channel, to look at virtual channels from `from` on. That is a plain number, here and below, since a graph knows no channels.
+// From which lane on to look at a channel, to look at virtual channels from `from` on, where not all of its own are below. That is a plain number, here and below, since a graph knows no channels.
 fn low_lane(channel: Channel, from: u16) -> u8
-    ensures { result ≡ Rattle.checking.specs.Words.low_lane channel.0 from }
+    ensures { from / 8 ≤ channel.0 → (i : ℕ) → i < 8 → (result ≤ i ↔ from ≤ 8 * channel.0 + i) }
 {
     if channel.0 == from / 8 {
         (from % 8) as u8
     } else {
         0
     }
+}
+
+// The lowest virtual channel from `from` on, on the channels, whose bit in its channel's word is set: bit `first` + `step` i for lane i.
+// Only channels below 8192 have a word that is not 0. It is a `for`, since the closure of a `find_map` would need clauses of its own.
+fn first_set<I, F>(channels: I, from: u16, first: u8, step: u8, word: F) -> Option<u16>
+where
+    I: Iterator<Item = Channel> + Drop,
+    F: Fn(Channel) -> u64,
+    requires can { I.can_next channels }
+    requires ends { IsFinite (I.remaining channels) }
+    requires callable { F.IsAlwaysCallable word }
+    requires small { (c : Channel) (w : ℕ) → F.post word c w → w ≢ 0 → c.0 < 8192 }
+    requires bits { first + 7 * step < 64 }
+    ensures { (list : List Channel) (words : ℕ → ℕ) → GivesAscending I.next_gives channels list → Computes (F.post word) words → Next (SetOn list words first step) from result }
+{
+    for channel in channels {
+        if channel.0 < from / 8 {
+            continue;
+        }
+        if let Some(lane) = lowest(word(channel), first, step, low_lane(channel, from)) {
+            return Some(8 * channel.0 + u16::from(lane));
+        }
+    }
+    None
 }
 
 impl Graph for VirtualChannels<'_> {
@@ -69,38 +83,27 @@ impl Graph for VirtualChannels<'_> {
 
     fn next_follower(&self, x: u16, from: u16) -> Option<u16> {
         let arriving = Channel(x / 8);
-        let first = 8 * (x % 8) as u8;
         let switch = self.rack.switch_entered(arriving)?;
-        for leaving in self.rack.leaving(switch) {
-            if leaving.0 < from / 8 {
-                continue;
-            }
-            let bits = word(self.rack, self.dependencies, arriving, *leaving);
-            if let Some(lane) = lowest(bits, first, 1, low_lane(*leaving, from)) {
-                return Some(8 * leaving.0 + u16::from(lane));
-            }
-        }
-        None
+        let channels = self.rack.leaving(switch).iter().copied();
+        first_set(channels, from, 8 * (x % 8) as u8, 1, |leaving| {
+            word(self.rack, self.dependencies, arriving, leaving)
+        })
     }
 
     fn next_forerunner(&self, y: u16, from: u16) -> Option<u16> {
         let leaving = Channel(y / 8);
-        let first = (y % 8) as u8;
         let ends = self.rack.ends(leaving)?;
-        for channel in self.rack.leaving(ends.tail.node) {
-            let arriving = way_back(*channel);
-            if arriving.0 < from / 8 {
-                continue;
-            }
-            let bits = word(self.rack, self.dependencies, arriving, leaving);
-            if let Some(lane) = lowest(bits, first, 8, low_lane(arriving, from)) {
-                return Some(8 * arriving.0 + u16::from(lane));
-            }
-        }
-        None
+        let channels = self
+            .rack
+            .leaving(ends.tail.node)
+            .iter()
+            .map(|channel| way_back(*channel));
+        first_set(channels, from, (y % 8) as u8, 8, |arriving| {
+            word(self.rack, self.dependencies, arriving, leaving)
+        })
     }
 
     ghost within = { λ g x y h. (h.0, h.1) };
 
-    ghost small = { λ g. Prim.omega (arith, g.rack.now.few.1) };
+    ghost small = { λ g. Prim.omega (arith, g.rack.now.rules.0.1) };
 }

@@ -44,6 +44,7 @@ fn mark_path(rack: &Rack, marks: &mut [u64], path: &[Step])
 }
 
 // The marks of the pairs that a plan has so far, and a list with room for the path of any one pair.
+// Each method says that the plan stays, since it may change all that it is lent.
 #[derive(Drop)]
 pub(crate) struct Marker<'a, S, M> {
     pub plan: &'a Plan<'a, S, M>,
@@ -64,9 +65,7 @@ impl<S: ForwardingSource, M: LaneMap> Marker<'_, S, M> {
         ensures fault { IfErr result (AtFault (routing_of S.route M.lanes self.old.plan.now) self.old.plan.now.levels.now self.old.plan.now.lanes pair) }
     {
         let plan = self.plan;
-        let Some(level) = level_of(plan.rack, plan.levels, pair) else {
-            return Err(CheckFault::Level { pair });
-        };
+        let level = level_of(plan.rack, plan.levels, pair).ok_or(CheckFault::Level { pair })?;
         walk(plan, pair, level, &mut self.path)?;
         mark_path(plan.rack, &mut self.marks, &self.path);
         Ok(())
@@ -83,8 +82,9 @@ impl<S: ForwardingSource, M: LaneMap> Marker<'_, S, M> {
         let plan = self.plan;
         for v in 0..plan.rack.node_count() as u16 {
             let receiver = Node(v);
-            if receiver != sender && plan.rack.is_host(receiver) {
-                self.mark_pair(Pair { sender, receiver })?;
+            let pair = Pair { sender, receiver };
+            if pair.joins_hosts(plan.rack) {
+                self.mark_pair(pair)?;
             }
         }
         Ok(())

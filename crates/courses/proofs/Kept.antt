@@ -1,9 +1,10 @@
 -- The law holds after any course. Assumes nothing.
-use Rattle.std.proofs.Common.{◌≡◌, ℕ, ◌+◌, ◌<◌, Bool, true, false, ◌≢◌, ◌↔◌, List, [], ◌∷◌, ◌++◌, length, set, sum_by, filter, sym, refl, ap, ◌∙◌, subst, add-zero, zero-add, arith, length-set, get_or-set_other, get_or-set_same}
+use Rattle.std.proofs.Common.{◌≡◌, ℕ, ◌+◌, ◌<◌, Bool, true, false, ◌≢◌, ◌↔◌, List, [], ◌∷◌, ◌++◌, length, set, sum_by, filter, sym, refl, ap, ◌∙◌, subst, ⊎_elim, add-zero, zero-add, arith, length-set, get_or-set_other, get_or-set_same}
 use Rattle.std.specs.Prelude.{All}
 use Rattle.std.proofs.lemmas.List.Elements.{filter-append, All-head, All-tail, All-weaker}
 use Rattle.std.proofs.lemmas.List.{append-nil, append_assoc}
 use Rattle.std.proofs.lemmas.List.Sums.{sum_by-append}
+use Rattle.std.proofs.lemmas.Bool.{cases_Bool}
 use Rattle.courses.specs.Queues.{to, Rules, Queues, at, push, Admits, Forwards, Takes, Event, refused, admitted, forwarded, taken, Step, refuses, admits, forwards, takes, Course, done, then}
 use Rattle.courses.specs.Law.{Routed, ahead, hops, entered, left, moves, waiting, Empty, OnWay, Placed, Law, KeepsLaw}
 use Rattle.courses.proofs.Ways.{Way, Going, apart, going_of, home_of, begins, some_ahead}
@@ -41,20 +42,12 @@ module _ {P : Type 0} (rules : Rules P) (count : ℕ) (path_of : P → List ℕ)
     counted : moves rs + hops path_of q' ≡ hops path_of q + sum_by (λ p. length (path_of p)) (entered rs)
     ordered : (test : P → Bool) (xs : List ℕ) → ((p : P) (x : ℕ) → test p ≡ true → rules.start p ≡ to x → path_of p ≡ xs) → waiting test xs q ++ filter test (entered rs) ≡ filter test (left rs) ++ waiting test xs q'
 
-  -- a path for one packet: what a course keeps of the packets that pass a test, by whether this one does
-  by_test : (test : P → Bool) (p : P) (G : Type 0) → (test p ≡ true → G) → (test p ≡ false → G) → G
-  by_test test p G passes fails = go (test p) refl
-    where
-      go : (b : Bool) → test p ≡ b → G
-      go true e = passes e
-      go false e = fails e
-
   admitted_kept : (q : Queues P) (p : P) (q' : Queues P) → Placed rules path_of q → Admits rules q p q' → Kept q (admitted p ∷ []) q'
   admitted_kept q p q' placed m = subst (Kept q (admitted p ∷ [])) (sym m.after) (record {
     sized = length-set q s (at q s ++ (p ∷ []));
     placed = each_push (OnWay rules path_of) q s p placed (record { first = s; starts = m.starts; some_ahead = some_ahead c });
     counted = omega (arith, hops_push path_of q s p m.there, begins c);
-    ordered = λ test xs same. by_test test p _ (λ e. in_order test xs (same p s e m.starts) e) (aside test xs);
+    ordered = λ test xs same. ⊎_elim (λ (e : test p ≡ true). in_order test xs (same p s e m.starts) e) (aside test xs) (cases_Bool (test p));
   })
     where
       s : ℕ
@@ -81,7 +74,7 @@ module _ {P : Type 0} (rules : Rules P) (count : ℕ) (path_of : P → List ℕ)
     sized = length-set q₁ y (at q₁ y ++ (p ∷ [])) ∙ length-set q x rest;
     placed = each_push (OnWay rules path_of) q₁ y p (each_set (OnWay rules path_of) q x rest placed behind) (record { first = on.first; starts = on.starts; some_ahead = rise.on_path });
     counted = omega (arith, hops_push path_of q₁ y p there, hops_leave path_of q x p rest m.first, rise.one_less);
-    ordered = λ test xs same. append-nil (waiting test xs q) ∙ by_test test p _ (λ e. in_order test xs (same p on.first e on.starts) e) (aside test xs);
+    ordered = λ test xs same. append-nil (waiting test xs q) ∙ ⊎_elim (λ (e : test p ≡ true). in_order test xs (same p on.first e on.starts) e) (aside test xs) (cases_Bool (test p));
   })
     where
       p : P
@@ -134,7 +127,7 @@ module _ {P : Type 0} (rules : Rules P) (count : ℕ) (path_of : P → List ℕ)
     sized = length-set q x rest;
     placed = each_set (OnWay rules path_of) q x rest placed behind;
     counted = omega (arith, hops_leave path_of q x p rest m.first, home_of c x on.some_ahead m.ends);
-    ordered = λ test xs same. append-nil (waiting test xs q) ∙ by_test test p _ (λ e. in_order test xs (same p on.first e on.starts) e) (aside test xs);
+    ordered = λ test xs same. append-nil (waiting test xs q) ∙ ⊎_elim (λ (e : test p ≡ true). in_order test xs (same p on.first e on.starts) e) (aside test xs) (cases_Bool (test p));
   })
     where
       rest : List P

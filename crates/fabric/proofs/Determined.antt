@@ -1,10 +1,11 @@
 -- A call has one answer, and one that can be made is accepted. Assumes nothing.
 use Rattle.std.proofs.Common.{◌≡◌, ℕ, ◌*◌, List, set, Ok, Err, sym, refl, ap, ◌∙◌, subst}
+use Rattle.std.proofs.lemmas.Option.{same_Some}
 use Rattle.rack.specs.declared.numbers.Channel.{Channel}
 use Rattle.rack.specs.declared.numbers.UpTo.{UpTo}
 use Rattle.routing.specs.declared.pair.Pair.{Pair}
 use Rattle.routing.specs.Paths.{Hop, hop}
-use Rattle.routing.proofs.Hops.{some_same}
+use Rattle.routing.proofs.Hops.{only_out}
 use Rattle.checking.specs.Plans.{virtual}
 use Rattle.courses.specs.Queues.{Queues, at, push}
 use Rattle.fabric.specs.declared.packet.Packet.{Packet}
@@ -12,18 +13,17 @@ use Rattle.fabric.specs.declared.packet.Delivery.{Delivery}
 use Rattle.fabric.specs.declared.fault.FabricFault.{FabricFault}
 use Rattle.fabric.specs.declared.call.Call.TheVariants.{Admit, Forward, Take}
 use Rattle.fabric.specs.declared.call.Done.TheVariants.{Admitted, Forwarded, Taken}
-use Rattle.fabric.specs.Padded.{no_packet}
 use Rattle.fabric.proofs.Same.{same_number, same_channel}
 use Rattle.fabric.specs.Packets.{moved, delivery}
 use Rattle.fabric.specs.Calls.{Setup, Admits, AdmitRefused, GoesOn, CanForward, Forwards, ForwardRefused, CanTake, Takes, TakeRefused, Answer}
 use Rattle.fabric.specs.Laws.{OneAnswer, ForwardAccepted, TakeAccepted}
-use Rattle.fabric.proofs.Questions.{one_stop, same_head, only_out, AdmitAsks, admit_fault, admit_stops, admit_passes, ForwardAsks, Tells, one_told, forward_stops, forward_passes, TakeAsks, take_stops, take_passes}
+use Rattle.fabric.proofs.Questions.{one_fault, same_head, AdmitAsks, admit_fault, admit_stops, admit_passes, queue_fault, ForwardAsks, forward_stops, forward_passes, TakeAsks, take_stops, take_passes}
 
 module _ (s : Setup) (qs : Queues Packet) where
   -- admit
   same_admitted : (p : Pair) (t : ℕ) (qs' qs'' : Queues Packet) → Admits s qs p t qs' → Admits s qs p t qs'' → qs' ≡ qs''
   same_admitted p t qs' qs'' m n =
-      let out : m.out ≡ n.out = only_out s qs p.sender.0 m.out n.out m.pair.0 m.leaves n.leaves in
+      let out : m.out ≡ n.out = only_out s.routes.rack p.sender.0 m.out n.out m.pair.0 m.leaves n.leaves in
       let level : m.packet.level ≡ n.packet.level = same_number 15 m.packet.level n.packet.level (m.its_level ∙ sym n.its_level) in
       let pair : m.packet.pair ≡ n.packet.pair = m.its_pair ∙ sym n.its_pair in
       let hops : m.packet.hop ≡ n.packet.hop = m.its_hop ∙ sym n.its_hop in
@@ -32,10 +32,7 @@ module _ (s : Setup) (qs : Queues Packet) where
       m.pushed ∙ (λ i. push qs (8 * out i) (packet i)) ∙ sym n.pushed
 
   admit_one : (p : Pair) (f h : FabricFault) → AdmitRefused s qs p f → AdmitRefused s qs p h → f ≡ h
-  admit_one p f h a b =
-      let x = admit_stops s qs p f a in
-      let y = admit_stops s qs p h b in
-      x.1 ∙ ap (admit_fault s qs p) (one_stop (AdmitAsks s qs p) x.0 y.0 x.2 y.2) ∙ sym y.1
+  admit_one p f h a b = one_fault (AdmitAsks s qs p) (admit_fault s qs p) f h (admit_stops s qs p f a) (admit_stops s qs p h b)
 
   admit_both : (p : Pair) (t : ℕ) (after : Queues Packet) (f : FabricFault) → Admits s qs p t after → AdmitRefused s qs p f → ⊥
   admit_both p t after f m a = let x = admit_stops s qs p f a in x.2.not (admit_passes s qs p t after m x.0)
@@ -44,7 +41,7 @@ module _ (s : Setup) (qs : Queues Packet) where
   pub same_goes : (x : ℕ) (p o : Packet) (h k : Hop) → p ≡ o → GoesOn s x p h → GoesOn s x o k → h ≡ k
   same_goes x p o h k same a b =
       let b' : GoesOn s x p k = subst (λ z. GoesOn s x z k) (sym same) b in
-      let channel : h.channel ≡ k.channel = some_same h.channel k.channel (sym a.1 ∙ b'.1) in
+      let channel : h.channel ≡ k.channel = same_Some h.channel k.channel (sym a.1 ∙ b'.1) in
       let lane : h.lane ≡ k.lane = a.3 ∙ ap (λ d. s.routes.lane (Prim.Native.Nat.◌/◌ x 8) d p.level.number) channel ∙ sym b'.3 in
       λ i. hop (channel i) (lane i)
 
@@ -55,14 +52,10 @@ module _ (s : Setup) (qs : Queues Packet) where
       (hops, m.pushed ∙ (λ i. push (set qs x (same.1 i)) (virtual (hops i)) (moved (same.0 i))) ∙ sym n.pushed)
 
   forward_one : (x : ℕ) (f h : FabricFault) → ForwardRefused s qs x f → ForwardRefused s qs x h → f ≡ h
-  forward_one x f h a b =
-      let i = forward_stops s qs x f a in
-      let j = forward_stops s qs x h b in
-      let k : i.0 ≡ j.0 = one_stop (ForwardAsks s qs x) i.0 j.0 i.2 j.2 in
-      one_told s qs x j.0 f h no_packet (subst (λ m. Tells s qs x m f) k i.1) j.1
+  forward_one x f h a b = one_fault (ForwardAsks s qs x) (queue_fault s qs x) f h (forward_stops s qs x f a) (forward_stops s qs x h b)
 
   pub forward_both : (x : ℕ) (p : Packet) (rest : List Packet) (h : Hop) (f : FabricFault) → CanForward s qs x p rest h → ForwardRefused s qs x f → ⊥
-  forward_both x p rest h f can a = let i = forward_stops s qs x f a in forward_passes s qs x p rest h can i.0 i.2
+  forward_both x p rest h f can a = let i = forward_stops s qs x f a in i.2.not (forward_passes s qs x p rest h can i.0)
 
   -- take
   same_taken : (x : ℕ) (d e : Delivery) (qs' qs'' : Queues Packet) → Takes s qs x d qs' → Takes s qs x e qs'' → (d ≡ e) × (qs' ≡ qs'')
@@ -71,14 +64,10 @@ module _ (s : Setup) (qs : Queues Packet) where
       (m.told ∙ ap delivery same.0 ∙ sym n.told, m.left ∙ ap (set qs x) same.1 ∙ sym n.left)
 
   take_one : (x : ℕ) (f h : FabricFault) → TakeRefused s qs x f → TakeRefused s qs x h → f ≡ h
-  take_one x f h a b =
-      let i = take_stops s qs x f a in
-      let j = take_stops s qs x h b in
-      let k : i.0 ≡ j.0 = one_stop (TakeAsks s qs x) i.0 j.0 i.2 j.2 in
-      one_told s qs x j.0 f h no_packet (subst (λ m. Tells s qs x m f) k i.1) j.1
+  take_one x f h a b = one_fault (TakeAsks s qs x) (queue_fault s qs x) f h (take_stops s qs x f a) (take_stops s qs x h b)
 
   pub take_both : (x : ℕ) (p : Packet) (rest : List Packet) (f : FabricFault) → CanTake s qs x p rest → TakeRefused s qs x f → ⊥
-  take_both x p rest f can a = let i = take_stops s qs x f a in take_passes s qs x p rest can i.0 i.2
+  take_both x p rest f can a = let i = take_stops s qs x f a in i.2.not (take_passes s qs x p rest can i.0)
 
   -- two refusals, which change nothing
   refusals : (f h : FabricFault) (qs' qs'' : Queues Packet) → f ≡ h → qs' ≡ qs → qs'' ≡ qs → (◌≡◌ {A = Answer} (Err f) (Err h)) × (qs' ≡ qs'')

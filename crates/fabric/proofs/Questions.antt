@@ -1,45 +1,49 @@
 -- The questions that a call asks, in their order: the first that is not answered yes is the refusal. Assumes nothing.
-use Rattle.std.proofs.Common.{◌≡◌, ℕ, zero, suc, ◌+◌, ◌*◌, ◌/◌, ◌<◌, ◌≤◌, true, List, ◌∷◌, length, Some, Err, sym, refl, ap, ◌∙◌, subst, ⊎_elim, arith}
-use Rattle.std.proofs.lemmas.Bool.{cases_eq, cases_lt}
+use Rattle.std.proofs.Common.{◌≡◌, ◌≢◌, ℕ, zero, suc, ◌+◌, ◌*◌, ◌/◌, ◌<◌, ◌≤◌, true, false, List, ◌∷◌, length, get_or, Some, Err, sym, refl, ap, ◌∙◌, subst, ⊎_elim, arith, below_none, below_more}
+use Rattle.std.specs.Prelude.{unwrap_or}
+use Rattle.std.proofs.lemmas.Bool.{both_ways, cases_order}
 use Rattle.rack.specs.Racks.{head, Leaving}
-use Rattle.rack.proofs.Facts.{one_out}
 use Rattle.routing.specs.declared.pair.Pair.{Pair}
 use Rattle.routing.specs.declared.fault.WalkFault.{WalkFault}
 use Rattle.routing.specs.declared.fault.WalkFault.TheVariants.{NoChannel, Elsewhere, Lane}
 use Rattle.routing.specs.Sources.{enters_switch}
 use Rattle.routing.specs.Turns.{turns}
-use Rattle.routing.specs.Paths.{Hop}
+use Rattle.routing.specs.Paths.{Hop, hop}
 use Rattle.routing.specs.Walks.{Advances}
-use Rattle.routing.proofs.Hops.{some_none, some_same}
-use Rattle.routing.proofs.Rounds.{true_false}
+use Rattle.routing.proofs.Hops.{only_out}
 use Rattle.checking.specs.Starts.{Ranged}
 use Rattle.checking.specs.Plans.{virtual}
 use Rattle.courses.specs.Queues.{Queues, at}
 use Rattle.fabric.specs.declared.packet.Packet.{Packet}
 use Rattle.fabric.specs.declared.fault.FabricFault.{FabricFault}
 use Rattle.fabric.specs.declared.fault.FabricFault.TheVariants.{Lanes, Tables, NoPair, Level, NoQueue, Empty, Misplaced, Walk, Full}
+use Rattle.fabric.specs.Padded.{no_packet}
 use Rattle.fabric.specs.Packets.{next_hop}
-use Rattle.fabric.specs.Calls.{Setup, queue_count, EnoughFor, level_for, PairHere, Admits, AdmitRefused, First, GoesOn, CanForward, ForwardRefused, CanTake, TakeRefused}
+use Rattle.fabric.specs.Calls.{Setup, queue_count, EnoughFor, level_for, PairHere, Admits, AdmitRefused, First, NoneFirst, GoesOn, NoWayOn, CanForward, ForwardRefused, CanTake, TakeRefused}
 
 -- the questions before k are answered yes, and k is not
 pub record Stops (A : ℕ → Type 0) (k : ℕ) : Type 0 where
   pub passed : (j : ℕ) → j < k → A j
   pub not : A k → ⊥
 
+-- the fault is that of the question that stops the call
+abbrev pub Stopped : (ℕ → Type 0) → (ℕ → FabricFault) → FabricFault → Type 0
+Stopped A fault f = (k : ℕ) × (f ≡ fault k) × Stops A k
+
 module _ (A : ℕ → Type 0) where
-  pub one_stop : (k m : ℕ) → Stops A k → Stops A m → k ≡ m
+  one_stop : (k m : ℕ) → Stops A k → Stops A m → k ≡ m
   one_stop k m a b =
-      ⊎_elim
-      (λ (l : k < m). absurd (a.not (b.passed k l)))
-      (λ (l : m ≤ k).
-      ⊎_elim (λ (e : m ≡ k). sym e) (λ (ne : m ≡ k → ⊥). absurd (b.not (a.passed m (omega arith)))) (cases_eq m k))
-      (cases_lt k m)
+      ⊎_elim (λ e. e)
+      (λ apart. absurd (⊎_elim (λ (l : k < m). a.not (b.passed k l)) (λ (l : m < k). b.not (a.passed m l)) apart))
+      (cases_order k m)
 
-  pub none_yet : (j : ℕ) → j < 0 → A j
-  none_yet j l = absurd (omega arith)
+  -- one call is refused for one fault
+  pub one_fault : (fault : ℕ → FabricFault) (f h : FabricFault) → Stopped A fault f → Stopped A fault h → f ≡ h
+  one_fault fault f h a b = a.1 ∙ ap fault (one_stop a.0 b.0 a.2 b.2) ∙ sym b.1
 
-  pub one_more : (k : ℕ) → ((j : ℕ) → j < k → A j) → A k → (j : ℕ) → j < suc k → A j
-  one_more k h a j l = ⊎_elim (λ (e : j ≡ k). subst A (sym e) a) (λ (ne : j ≡ k → ⊥). h j (omega arith)) (cases_eq j k)
+  -- every call asks first whether it can start
+  two : A 0 × A 1 → (j : ℕ) → j < 2 → A j
+  two h = below_more A 1 (below_more A 0 (below_none A) h.0) h.1
 
 pub same_head : (l : List Packet) (p o : Packet) (ps os : List Packet) → l ≡ p ∷ ps → l ≡ o ∷ os → (p ≡ o) × (ps ≡ os)
 same_head l p o ps os a b = (cc, cc)
@@ -60,204 +64,170 @@ module _ (s : Setup) (qs : Queues Packet) where
   admit_fault p (suc (suc (suc zero))) = Level p
   admit_fault p (suc (suc (suc (suc k)))) = Full p 0
 
-  pub only_out : (u b c : ℕ) → Rattle.rack.specs.Racks.Host s.routes.rack u → Leaving s.routes.rack u b → Leaving s.routes.rack u c → b ≡ c
-  only_out u b c host l m = let one = one_out s.routes.rack u host in one.2 b l ∙ sym (one.2 c m)
+  module _ (p : Pair) where
+    abbrev A : ℕ → Type 0
+    A = AdmitAsks p
 
-  pub admit_stops : (p : Pair) (f : FabricFault) → AdmitRefused s qs p f → (k : ℕ) × (f ≡ admit_fault p k) × Stops (AdmitAsks p) k
-  admit_stops p Lanes h = (0, refl, record { passed = none_yet (AdmitAsks p); not = h })
-  admit_stops p Tables h = (1, refl, record { passed = one_more (AdmitAsks p) 0 (none_yet (AdmitAsks p)) h.0; not = h.1 })
-  admit_stops p (NoPair q) h =
-      let A = AdmitAsks p in
-      (2, ap NoPair h.1.0, record { passed = one_more A 1 (one_more A 0 (none_yet A) h.0.0) h.0.1; not = h.1.1 })
-  admit_stops p (Level q) h =
-      let A = AdmitAsks p in
-      (3, ap Level h.1.0, record { passed = one_more A 2 (one_more A 1 (one_more A 0 (none_yet A) h.0.0) h.0.1) h.1.1; not = λ l. omega (arith, h.1.2) })
-  admit_stops p (Full q i) h =
-      let A = AdmitAsks p in (
-        4,
-        (λ t. Full (h.1 t) (h.2 t)),
-        record {
-          passed = one_more A 3 (one_more A 2 (one_more A 1 (one_more A 0 (none_yet A) h.0.0) h.0.1) h.3) h.4;
-          not = λ fits. omega (arith, fits h.5.0 h.5.1, h.5.2);
-        },
-      )
-  admit_stops p _ h = elim h [ ]
-
-  pub admit_passes : (p : Pair) (t : ℕ) (after : Queues Packet) → Admits s qs p t after → (k : ℕ) → AdmitAsks p k
-  admit_passes p t after m zero = m.ready.0
-  admit_passes p t after m (suc zero) = m.ready.1
-  admit_passes p t after m (suc (suc zero)) = m.pair
-  admit_passes p t after m (suc (suc (suc zero))) = omega (arith, m.its_level, m.packet.level.within)
-  admit_passes p t after m (suc (suc (suc (suc k)))) = λ c l. subst (λ o. length (at qs (8 * o)) < s.depth) (only_out p.sender.0 m.out c m.pair.0 m.leaves l) m.fits
-
-  -- of a forward; what is asked of the first packet is asked once there is one
-  abbrev pub Heads : ℕ → Packet → Type 0
-  Heads x p = (rest : List Packet) × (at qs x ≡ p ∷ rest)
-
-  abbrev pub Named : ℕ → Packet → ℕ → Type 0
-  Named x p d = s.routes.next (x / 8) p.pair.receiver.0 ≡ Some d
-
-  abbrev lane_to : ℕ → Packet → ℕ → ℕ
-  lane_to x p d = s.routes.lane (x / 8) d p.level.number
-
-  abbrev pub ForwardAsks : ℕ → ℕ → Type 0
-  ForwardAsks x zero = Ranged s.lanes
-  ForwardAsks x (suc zero) = EnoughFor s qs
-  ForwardAsks x (suc (suc zero)) = x < queue_count s
-  ForwardAsks x (suc (suc (suc zero))) = (p : Packet) × Heads x p
-  ForwardAsks x (suc (suc (suc (suc zero)))) = enters_switch s.routes.rack (x / 8) ≡ true
-  ForwardAsks x (suc (suc (suc (suc (suc zero))))) = (p : Packet) → Heads x p → (d : ℕ) × Named x p d
-  ForwardAsks x (suc (suc (suc (suc (suc (suc zero)))))) = (p : Packet) (d : ℕ) → Heads x p → Named x p d → turns s.routes.rack (x / 8) d ≡ true
-  ForwardAsks x (suc (suc (suc (suc (suc (suc (suc zero))))))) = (p : Packet) (d : ℕ) → Heads x p → Named x p d → lane_to x p d < s.lanes
-  ForwardAsks x (suc (suc (suc (suc (suc (suc (suc (suc k)))))))) = (p : Packet) (d : ℕ) → Heads x p → Named x p d → length (at qs (8 * d + lane_to x p d)) < s.depth
-
-  abbrev pub forward_fault : Packet → ℕ → FabricFault
-  forward_fault p zero = Lanes
-  forward_fault p (suc zero) = Tables
-  forward_fault p (suc (suc zero)) = NoQueue
-  forward_fault p (suc (suc (suc zero))) = Empty
-  forward_fault p (suc (suc (suc (suc zero)))) = Misplaced p.pair p.hop
-  forward_fault p (suc (suc (suc (suc (suc zero))))) = Walk (NoChannel p.pair (next_hop p.hop))
-  forward_fault p (suc (suc (suc (suc (suc (suc zero)))))) = Walk (Elsewhere p.pair (next_hop p.hop))
-  forward_fault p (suc (suc (suc (suc (suc (suc (suc zero))))))) = Walk (Lane p.pair (next_hop p.hop))
-  forward_fault p (suc (suc (suc (suc (suc (suc (suc (suc k)))))))) = Full p.pair (next_hop p.hop)
-
-  -- which refusal question k gives: from question 4 on it tells of the first packet
-  pub data Tells (x : ℕ) : ℕ → FabricFault → Type 0 where
-    plain : {k : ℕ} {f : FabricFault} → k < 4 → ((p : Packet) → f ≡ forward_fault p k) → Tells x k f
-    of_first : {k : ℕ} {f : FabricFault} → 4 ≤ k → (p : Packet) → Heads x p → f ≡ forward_fault p k → Tells x k f
-
-  same_heads : (x : ℕ) (p o : Packet) → Heads x p → Heads x o → p ≡ o
-  same_heads x p o a b = (same_head (at qs x) p o a.0 b.0 a.1 b.1).0
-
-  pub one_told : (x k : ℕ) (f h : FabricFault) (p : Packet) → Tells x k f → Tells x k h → f ≡ h
-  one_told x k f h p (plain l e) (plain m d) = e p ∙ sym (d p)
-  one_told x k f h p (plain l e) (of_first m o q d) = absurd (omega arith)
-  one_told x k f h p (of_first l o q e) (plain m d) = absurd (omega arith)
-  one_told x k f h p (of_first l o q e) (of_first m o' q' d) = e ∙ ap (λ (z : Packet). forward_fault z k) (same_heads x o o' q q') ∙ sym d
-
-  module _ (x : ℕ) where
-    abbrev F : ℕ → Type 0
-    F = ForwardAsks x
-
-    -- there is a first packet
-    up_to_first : (p : Packet) (rest : List Packet) → First s qs x p rest → (j : ℕ) → j < 4 → F j
-    up_to_first p rest h = one_more F 3 (one_more F 2 (one_more F 1 (one_more F 0 (none_yet F) h.0.0) h.0.1) h.1) (p, (rest, h.2))
-
-    heads : (p : Packet) (rest : List Packet) → First s qs x p rest → Heads x p
-    heads p rest h = (rest, h.2)
-
-    -- what is true of the first packet is true of whatever is first
-    for_heads : (Q : Packet → Type 0) (p : Packet) → Heads x p → Q p → (o : Packet) → Heads x o → Q o
-    for_heads Q p h q o k = subst Q (same_heads x p o h k) q
-
-    -- and what is true of the channel that is named for it, of whatever is named
-    for_named : (Q : Packet → ℕ → Type 0) (p : Packet) (d : ℕ) → Heads x p → Named x p d → Q p d → (o : Packet) (e : ℕ) → Heads x o → Named x o e → Q o e
-    for_named Q p d h n q o e k m =
-        let same : p ≡ o = same_heads x p o h k in
-        let named : d ≡ e = some_same d e (sym n ∙ ap (λ (z : Packet). s.routes.next (x / 8) z.pair.receiver.0) same ∙ m) in
-        subst (λ z. Q o z) named (subst (λ z. Q z d) same q)
-
-    -- up to a channel that is named, and up to one that leaves the switch
-    up_to_named : (p : Packet) (rest : List Packet) (d : ℕ) → First s qs x p rest → enters_switch s.routes.rack (x / 8) ≡ true → Named x p d → (j : ℕ) → j < 6 → F j
-    up_to_named p rest d h sw n = one_more F 5 (one_more F 4 (up_to_first p rest h) sw) (for_heads (λ o. (e : ℕ) × Named x o e) p (heads p rest h) (d, n))
-
-    up_to_turn : (p : Packet) (rest : List Packet) (d : ℕ) → First s qs x p rest → enters_switch s.routes.rack (x / 8) ≡ true → Named x p d → turns s.routes.rack (x / 8) d ≡ true → (j : ℕ) → j < 7 → F j
-    up_to_turn p rest d h sw n t = one_more F 6 (up_to_named p rest d h sw n) (for_named (λ o e. turns s.routes.rack (x / 8) e ≡ true) p d (heads p rest h) n t)
-
-    up_to_lane : (p : Packet) (rest : List Packet) (h : Hop) → First s qs x p rest → GoesOn s x p h → (j : ℕ) → j < 8 → F j
-    up_to_lane p rest h first goes =
-        one_more F 7 (up_to_turn p rest h.channel first goes.0 goes.1 goes.2)
-        (for_named (λ o e. lane_to x o e < s.lanes) p h.channel (heads p rest first) goes.1 (omega (arith, goes.3, goes.4)))
-
-    same_queue : (p : Packet) (h : Hop) → GoesOn s x p h → 8 * h.channel + lane_to x p h.channel ≡ virtual h
-    same_queue p h goes = omega (arith, goes.3)
-
-    abbrev Stopped : FabricFault → Type 0
-    Stopped f = (k : ℕ) × Tells x k f × Stops F k
-
-    walk_stops : (p : Packet) (rest : List Packet) (w : WalkFault) → First s qs x p rest → enters_switch s.routes.rack (x / 8) ≡ true → Advances s.routes s.lanes p.pair p.level.number (x / 8) (next_hop p.hop) (Err w) → Stopped (Walk w)
-    walk_stops p rest (NoChannel q i) first sw h = (
-      5,
-      of_first (omega arith) p (heads p rest first) (λ t. Walk (NoChannel (h.0 t) (h.1 t))),
-      record { passed = one_more F 4 (up_to_first p rest first) sw; not = λ named. let n = named p (heads p rest first) in some_none n.0 (sym n.1 ∙ h.2) },
+    pub admit_stops : (f : FabricFault) → AdmitRefused s qs p f → Stopped A (admit_fault p) f
+    admit_stops Lanes h = (0, refl, record { passed = below_none A; not = h })
+    admit_stops Tables h = (1, refl, record { passed = below_more A 0 (below_none A) h.0; not = h.1 })
+    admit_stops (NoPair q) h = (2, ap NoPair h.1.0, record { passed = two A h.0; not = h.1.1 })
+    admit_stops (Level q) h = (3, ap Level h.1.0, record { passed = below_more A 2 (two A h.0) h.1.1; not = λ l. omega (arith, h.1.2) })
+    admit_stops (Full q i) h = (
+      4,
+      (λ t. Full (h.1 t) (h.2 t)),
+      record { passed = below_more A 3 (below_more A 2 (two A h.0) h.3) h.4; not = λ fits. omega (arith, fits h.5.0 h.5.1, h.5.2) },
     )
-    walk_stops p rest (Elsewhere q i) first sw h =
-        let d = h.2.0 in (
-          6,
-          of_first (omega arith) p (heads p rest first) (λ t. Walk (Elsewhere (h.0 t) (h.1 t))),
-          record { passed = up_to_named p rest d first sw h.2.1; not = λ there. true_false _ (there p d (heads p rest first) h.2.1) h.2.2 },
-        )
-    walk_stops p rest (Lane q i) first sw h =
-        let d = h.2.0 in (
-          7,
-          of_first (omega arith) p (heads p rest first) (λ t. Walk (Lane (h.0 t) (h.1 t))),
-          record { passed = up_to_turn p rest d first sw h.2.1 h.2.2; not = λ low. omega (arith, low p d (heads p rest first) h.2.1, h.2.3) },
-        )
-    walk_stops p rest _ first sw h = elim h [ ]
+    admit_stops _ h = elim h [ ]
 
-    pub forward_stops : (f : FabricFault) → ForwardRefused s qs x f → Stopped f
-    forward_stops Lanes h = (0, plain (omega arith) (λ p. refl), record { passed = none_yet F; not = h })
-    forward_stops Tables h = (1, plain (omega arith) (λ p. refl), record { passed = one_more F 0 (none_yet F) h.0; not = h.1 })
-    forward_stops NoQueue h = (2, plain (omega arith) (λ p. refl), record { passed = one_more F 1 (one_more F 0 (none_yet F) h.0.0) h.0.1; not = λ l. omega (arith, h.1) })
-    forward_stops Empty h =
-        (3, plain (omega arith) (λ p. refl), record { passed = one_more F 2 (one_more F 1 (one_more F 0 (none_yet F) h.0.0) h.0.1) h.1; not = λ t. cc (h.2, t.1.1) })
-    forward_stops (Misplaced q i) h =
-        (4, of_first (omega arith) h.0 (heads h.0 h.1 h.2) (λ t. Misplaced (h.3.0 t) (h.3.1 t)), record { passed = up_to_first h.0 h.1 h.2; not = λ sw. true_false _ sw h.3.2 })
-    forward_stops (Walk w) h = walk_stops h.0 h.1 w h.2 h.3.0 h.3.1
-    forward_stops (Full q i) h =
-        let p = h.0 in
-        let k = h.2 in
-        let first = h.3 in (
-          8,
-          of_first (omega arith) p (heads p h.1 first) (λ t. Full (h.5 t) (h.6 t)),
-          record {
-            passed = up_to_lane p h.1 k first h.4;
-            not = λ fits. omega (arith, fits p k.channel (heads p h.1 first) h.4.1, h.7, ap (λ y. length (at qs y)) (same_queue p k h.4));
-          },
+    pub admit_passes : (t : ℕ) (after : Queues Packet) → Admits s qs p t after → (k : ℕ) → A k
+    admit_passes t after m zero = m.ready.0
+    admit_passes t after m (suc zero) = m.ready.1
+    admit_passes t after m (suc (suc zero)) = m.pair
+    admit_passes t after m (suc (suc (suc zero))) = omega (arith, m.its_level, m.packet.level.within)
+    admit_passes t after m (suc (suc (suc (suc k)))) = λ c l. subst (λ o. length (at qs (8 * o)) < s.depth) (only_out s.routes.rack p.sender.0 m.out c m.pair.0 m.leaves l) m.fits
+
+  -- of a forward or a take from queue x
+  module _ (x : ℕ) where
+    -- the first packet, the channel that is named for it and its lane there; any, where there is none
+    abbrev pub packet : Packet
+    packet = get_or (at qs x) 0 no_packet
+
+    abbrev Next : ℕ → Type 0
+    Next d = s.routes.next (x / 8) packet.pair.receiver.0 ≡ Some d
+
+    abbrev channel : ℕ
+    channel = unwrap_or (s.routes.next (x / 8) packet.pair.receiver.0) 0
+
+    abbrev lane : ℕ
+    lane = s.routes.lane (x / 8) channel packet.level.number
+
+    -- what is first, named and gone on to is just that
+    is_packet : (p : Packet) (rest : List Packet) → First s qs x p rest → p ≡ packet
+    is_packet p rest h = ap (λ l. get_or l 0 no_packet) (sym h.2)
+
+    is_channel : (d : ℕ) → Next d → d ≡ channel
+    is_channel d e = ap (λ o. unwrap_or o 0) (sym e)
+
+    -- first whether there is a packet, and then more
+    abbrev Asks : (ℕ → Type 0) → ℕ → Type 0
+    Asks more zero = Ranged s.lanes
+    Asks more (suc zero) = EnoughFor s qs
+    Asks more (suc (suc zero)) = x < queue_count s
+    Asks more (suc (suc (suc zero))) = 0 < length (at qs x)
+    Asks more (suc (suc (suc (suc k)))) = more k
+
+    abbrev pub queue_fault : ℕ → FabricFault
+    queue_fault zero = Lanes
+    queue_fault (suc zero) = Tables
+    queue_fault (suc (suc zero)) = NoQueue
+    queue_fault (suc (suc (suc zero))) = Empty
+    queue_fault (suc (suc (suc (suc zero)))) = Misplaced packet.pair packet.hop
+    queue_fault (suc (suc (suc (suc (suc zero))))) = Walk (NoChannel packet.pair (next_hop packet.hop))
+    queue_fault (suc (suc (suc (suc (suc (suc zero)))))) = Walk (Elsewhere packet.pair (next_hop packet.hop))
+    queue_fault (suc (suc (suc (suc (suc (suc (suc zero))))))) = Walk (Lane packet.pair (next_hop packet.hop))
+    queue_fault (suc (suc (suc (suc (suc (suc (suc (suc k)))))))) = Full packet.pair (next_hop packet.hop)
+
+    module _ (more : ℕ → Type 0) where
+      -- without a first packet one of the first four questions stops the call
+      none_stops : (f : FabricFault) → NoneFirst s qs x f → Stopped (Asks more) queue_fault f
+      none_stops Lanes h = (0, refl, record { passed = below_none (Asks more); not = h })
+      none_stops Tables h = (1, refl, record { passed = below_more (Asks more) 0 (below_none (Asks more)) h.0; not = h.1 })
+      none_stops NoQueue h = (2, refl, record { passed = two (Asks more) h.0; not = λ l. omega (arith, h.1) })
+      none_stops Empty h = (3, refl, record { passed = below_more (Asks more) 2 (two (Asks more) h.0) h.1; not = λ some. omega (arith, some, ap length h.2) })
+      none_stops _ h = elim h [ ]
+
+      -- with one, none of them does
+      four : (p : Packet) (rest : List Packet) → First s qs x p rest → (j : ℕ) → j < 4 → Asks more j
+      four p rest h = below_more (Asks more) 3 (below_more (Asks more) 2 (two (Asks more) h.0) h.1) (omega (arith, ap length h.2))
+
+    -- then, of a forward, whether the packet goes on from there, by that channel and on that lane
+    abbrev MoveAsks : ℕ → Type 0
+    MoveAsks zero = enters_switch s.routes.rack (x / 8) ≡ true
+    MoveAsks (suc zero) = Next channel
+    MoveAsks (suc (suc zero)) = turns s.routes.rack (x / 8) channel ≡ true
+    MoveAsks (suc (suc (suc zero))) = lane < s.lanes
+    MoveAsks (suc (suc (suc (suc k)))) = length (at qs (8 * channel + lane)) < s.depth
+
+    abbrev pub ForwardAsks : ℕ → Type 0
+    ForwardAsks = Asks MoveAsks
+
+    is_hop : (h : Hop) → GoesOn s x packet h → h ≡ hop channel lane
+    is_hop h goes =
+        let same = is_channel h.channel goes.1 in
+        λ i. hop (same i) ((goes.3 ∙ ap (λ d. s.routes.lane (x / 8) d packet.level.number) same) i)
+
+    -- where it goes on, none of the first eight does
+    eight : (p : Packet) (rest : List Packet) → First s qs x p rest → GoesOn s x packet (hop channel lane) → (j : ℕ) → j < 8 → ForwardAsks j
+    eight p rest first goes =
+        let F = ForwardAsks in
+        below_more F 7 (below_more F 6 (below_more F 5 (below_more F 4 (four MoveAsks p rest first) goes.0) goes.1) goes.2) goes.4
+
+    -- where the source or the map is at fault, the question after the first five that is about it does
+    walk_stops : (w : WalkFault) → ((j : ℕ) → j < 5 → ForwardAsks j) → Advances s.routes s.lanes packet.pair packet.level.number (x / 8) (next_hop packet.hop) (Err w) → Stopped ForwardAsks queue_fault (Walk w)
+    walk_stops (NoChannel q i) five h = (5, (λ t. Walk (NoChannel (h.0 t) (h.1 t))), record { passed = five; not = λ named. cc (named, h.2) })
+    walk_stops (Elsewhere q i) five h =
+        let d = subst (λ d. Next d × (turns s.routes.rack (x / 8) d ≡ false)) (is_channel h.2.0 h.2.1) (h.2.1, h.2.2) in (
+          6,
+          (λ t. Walk (Elsewhere (h.0 t) (h.1 t))),
+          record { passed = below_more ForwardAsks 5 five d.0; not = both_ways _ d.1 },
         )
+    walk_stops (Lane q i) five h =
+        let d = subst (λ d. Next d × (turns s.routes.rack (x / 8) d ≡ true) × (s.lanes ≤ s.routes.lane (x / 8) d packet.level.number)) (is_channel h.2.0 h.2.1) (h.2.1, h.2.2, h.2.3) in (
+          7,
+          (λ t. Walk (Lane (h.0 t) (h.1 t))),
+          record { passed = below_more ForwardAsks 6 (below_more ForwardAsks 5 five d.0) d.1; not = λ low. omega (arith, d.2) },
+        )
+    walk_stops _ five h = elim h [ ]
+
+    pub forward_stops : (f : FabricFault) → ForwardRefused s qs x f → Stopped ForwardAsks queue_fault f
+    forward_stops Lanes h = none_stops MoveAsks Lanes h
+    forward_stops Tables h = none_stops MoveAsks Tables h
+    forward_stops NoQueue h = none_stops MoveAsks NoQueue h
+    forward_stops Empty h = none_stops MoveAsks Empty h
+    forward_stops (Misplaced q i) h =
+        let why = subst (λ p. NoWayOn s x p (Misplaced q i)) (is_packet h.0 h.1 h.2) h.3 in
+        (4, (λ t. Misplaced (why.0 t) (why.1 t)), record { passed = four MoveAsks h.0 h.1 h.2; not = both_ways _ why.2 })
+    forward_stops (Walk w) h =
+        let why = subst (λ p. NoWayOn s x p (Walk w)) (is_packet h.0 h.1 h.2) h.3 in
+        walk_stops w (below_more ForwardAsks 4 (four MoveAsks h.0 h.1 h.2) why.0) why.1
+    forward_stops (Full q i) h =
+        let why = subst (λ p. GoesOn s x p h.2 × (q ≡ p.pair) × (i ≡ next_hop p.hop)) (is_packet h.0 h.1 h.3) (h.4, h.5, h.6) in
+        let on = subst (λ k. GoesOn s x packet k × (s.depth ≤ length (at qs (virtual k)))) (is_hop h.2 why.0) (why.0, h.7) in
+        (8, (λ t. Full (why.1 t) (why.2 t)), record { passed = eight h.0 h.1 h.3 on.0; not = λ fits. omega (arith, on.1) })
     forward_stops _ h = elim h [ ]
 
-    -- where the first packet can go on, nothing stops it
-    pub forward_passes : (p : Packet) (rest : List Packet) (h : Hop) → CanForward s qs x p rest h → (k : ℕ) → Stops F k → ⊥
-    forward_passes p rest h can k stop =
-        let all = up_to_lane p rest h can.first can.goes in
-        let room = for_named (λ o e. length (at qs (8 * e + lane_to x o e)) < s.depth) p h.channel (heads p rest can.first) can.goes.1
-        (omega (arith, can.fits, ap (λ y. length (at qs y)) (same_queue p h can.goes))) in
-        ⊎_elim (λ (l : k < 8). stop.not (all k l)) (λ (l : 8 ≤ k). stop.not (last_ask k l room)) (cases_lt k 8)
+    -- where the first packet can go on, every question is answered yes
+    pub forward_passes : (p : Packet) (rest : List Packet) (h : Hop) → CanForward s qs x p rest h → (k : ℕ) → ForwardAsks k
+    forward_passes p rest h can k = go k
       where
-        last_ask : (k : ℕ) → 8 ≤ k → F 8 → F k
-        last_ask (suc (suc (suc (suc (suc (suc (suc (suc k)))))))) l r = r
-        last_ask _ l r = absurd (omega arith)
+        goes : GoesOn s x packet h
+        goes = subst (λ o. GoesOn s x o h) (is_packet p rest can.first) can.goes
 
-    -- of a take
+        on : GoesOn s x packet (hop channel lane) × (length (at qs (8 * channel + lane)) < s.depth)
+        on = subst (λ k. GoesOn s x packet k × (length (at qs (virtual k)) < s.depth)) (is_hop h goes) (goes, can.fits)
+
+        go : (k : ℕ) → ForwardAsks k
+        go (suc (suc (suc (suc (suc (suc (suc (suc k)))))))) = on.1
+        go k = eight p rest can.first on.0 k (omega arith)
+
+    -- then, of a take, whether the packet is at its receiver
+    abbrev HomeAsks : ℕ → Type 0
+    HomeAsks k = head s.routes.rack (x / 8) ≡ packet.pair.receiver.0
+
     abbrev pub TakeAsks : ℕ → Type 0
-    TakeAsks zero = Ranged s.lanes
-    TakeAsks (suc zero) = EnoughFor s qs
-    TakeAsks (suc (suc zero)) = x < queue_count s
-    TakeAsks (suc (suc (suc zero))) = (p : Packet) × Heads x p
-    TakeAsks (suc (suc (suc (suc k)))) = (p : Packet) → Heads x p → head s.routes.rack (x / 8) ≡ p.pair.receiver.0
+    TakeAsks = Asks HomeAsks
 
-    up_to_heads : (p : Packet) (rest : List Packet) → First s qs x p rest → (j : ℕ) → j < 4 → TakeAsks j
-    up_to_heads p rest h = let T = TakeAsks in one_more T 3 (one_more T 2 (one_more T 1 (one_more T 0 (none_yet T) h.0.0) h.0.1) h.1) (p, (rest, h.2))
-
-    pub take_stops : (f : FabricFault) → TakeRefused s qs x f → (k : ℕ) × Tells x k f × Stops TakeAsks k
-    take_stops Lanes h = (0, plain (omega arith) (λ p. refl), record { passed = none_yet TakeAsks; not = h })
-    take_stops Tables h = (1, plain (omega arith) (λ p. refl), record { passed = one_more TakeAsks 0 (none_yet TakeAsks) h.0; not = h.1 })
-    take_stops NoQueue h =
-        (2, plain (omega arith) (λ p. refl), record { passed = one_more TakeAsks 1 (one_more TakeAsks 0 (none_yet TakeAsks) h.0.0) h.0.1; not = λ l. omega (arith, h.1) })
-    take_stops Empty h =
-        (3, plain (omega arith) (λ p. refl), record { passed = one_more TakeAsks 2 (one_more TakeAsks 1 (one_more TakeAsks 0 (none_yet TakeAsks) h.0.0) h.0.1) h.1; not = λ t. cc (h.2, t.1.1) })
+    pub take_stops : (f : FabricFault) → TakeRefused s qs x f → Stopped TakeAsks queue_fault f
+    take_stops Lanes h = none_stops HomeAsks Lanes h
+    take_stops Tables h = none_stops HomeAsks Tables h
+    take_stops NoQueue h = none_stops HomeAsks NoQueue h
+    take_stops Empty h = none_stops HomeAsks Empty h
     take_stops (Misplaced q i) h =
-        (4, of_first (omega arith) h.0 (heads h.0 h.1 h.2) (λ t. Misplaced (h.3 t) (h.4 t)), record { passed = up_to_heads h.0 h.1 h.2; not = λ at_home. h.5 (at_home h.0 (heads h.0 h.1 h.2)) })
+        let why = subst (λ p. (q ≡ p.pair) × (i ≡ p.hop) × (head s.routes.rack (x / 8) ≢ p.pair.receiver.0)) (is_packet h.0 h.1 h.2) (h.3, h.4, h.5) in
+        (4, (λ t. Misplaced (why.0 t) (why.1 t)), record { passed = four HomeAsks h.0 h.1 h.2; not = why.2 })
     take_stops _ h = elim h [ ]
 
-    pub take_passes : (p : Packet) (rest : List Packet) → CanTake s qs x p rest → (k : ℕ) → Stops TakeAsks k → ⊥
-    take_passes p rest can k stop =
-        ⊎_elim (λ (l : k < 4). stop.not (up_to_heads p rest can.first k l))
-        (λ (l : 4 ≤ k). stop.not (last_ask k l (for_heads (λ o. head s.routes.rack (x / 8) ≡ o.pair.receiver.0) p (heads p rest can.first) can.home)))
-        (cases_lt k 4)
-      where
-        last_ask : (k : ℕ) → 4 ≤ k → TakeAsks 4 → TakeAsks k
-        last_ask (suc (suc (suc (suc k)))) l r = r
-        last_ask _ l r = absurd (omega arith)
+    pub take_passes : (p : Packet) (rest : List Packet) → CanTake s qs x p rest → (k : ℕ) → TakeAsks k
+    take_passes p rest can (suc (suc (suc (suc k)))) = subst (λ o. head s.routes.rack (x / 8) ≡ o.pair.receiver.0) (is_packet p rest can.first) can.home
+    take_passes p rest can k = four HomeAsks p rest can.first k (omega arith)

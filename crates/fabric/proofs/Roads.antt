@@ -1,18 +1,18 @@
 -- The paths of a sound plan, as the law of courses wants them. Assumes nothing.
-use Rattle.std.proofs.Common.{◌≡◌, ℕ, zero, suc, ◌+◌, ◌-◌, ◌*◌, ◌/◌, ◌%◌, ◌<◌, ◌≤◌, Bool, true, false, cond, not, ◌&&◌, eqb, [], ◌∷◌, get_or, Some, None, Option, sym, refl, ap, ◌∙◌, subst, ⊎_elim, arith, eq-eqb, ne_eqb, eqb-true}
-use borrow.Author.Tests.{eqb-false}
+use Rattle.std.proofs.Common.{◌≡◌, ℕ, zero, suc, ◌+◌, ◌-◌, ◌*◌, ◌/◌, ◌%◌, ◌<◌, ◌≤◌, Bool, true, false, cond, not, ◌&&◌, eqb, [], ◌∷◌, Some, None, Option, sym, refl, ap, ◌∙◌, subst, ⊎_elim, arith, eq-eqb, ne_eqb}
 use Rattle.std.specs.Prelude.{All}
-use Rattle.std.proofs.lemmas.Bool.{cases_eq, cases_lt}
+use Rattle.std.proofs.lemmas.Bool.{both_ways, cases_eq, cases_lt, cases_Bool, cond-true, cond-false}
+use Rattle.std.proofs.lemmas.Bool.Decides.{nat_tests}
+use Rattle.std.proofs.lemmas.Option.{same_Some}
 use Rattle.rack.specs.declared.rack.Rack.{Rack}
-use Rattle.rack.specs.Racks.{nodes_of, channel_count, head, tail, Host, Leaving}
+use Rattle.rack.specs.Racks.{channel_count, head, tail, Host, Leaving}
 use Rattle.rack.proofs.Facts.{one_out}
 use Rattle.routing.specs.declared.pair.Pair.{Pair}
 use Rattle.routing.specs.Sources.{enters_switch, is_end}
 use Rattle.routing.specs.Paths.{Routing, Hop, hop, behind, hop_at, EndsAtHop}
-use Rattle.routing.proofs.Sourced.{cond_true, cond_false, least_some}
-use Rattle.routing.proofs.Hops.{some_same, behind_ends, hop_below, hop_last, from_first}
-use Rattle.routing.proofs.Tests.{both, both_fst, both_snd, end_yes}
-use Rattle.routing.proofs.Rounds.{into_host, true_false, before, delivered_in_time, no_channel_twice}
+use Rattle.routing.proofs.Sourced.{least_some}
+use Rattle.routing.proofs.Hops.{only_out, behind_ends, hop_below, hop_last, from_first}
+use Rattle.routing.proofs.Rounds.{into_host, before, delivered_in_time, no_channel_twice}
 use Rattle.checking.specs.Starts.{Ranged}
 use Rattle.checking.specs.Plans.{virtual, Follows, FinePair, Sound}
 use Rattle.courses.specs.Queues.{Onward, to, home, nowhere, Rules}
@@ -23,21 +23,17 @@ use Rattle.fabric.specs.Courses.{then_on, hops_on, channel_out, path_from, path,
 use Rattle.fabric.proofs.Hops.{all_hops, once, next_hops, no_more}
 
 -- the channel and the lane of a virtual channel's number
-pub channel_of : (h : Hop) → h.lane < 8 → virtual h / 8 ≡ h.channel
+channel_of : (h : Hop) → h.lane < 8 → virtual h / 8 ≡ h.channel
 channel_of h l = omega arith
 
-pub lane_of : (h : Hop) → h.lane < 8 → virtual h % 8 ≡ h.lane
-lane_of h l = omega arith
-
 pub hop_again : (h : Hop) → h.lane < 8 → hop (virtual h / 8) (virtual h % 8) ≡ h
-hop_again h l = λ i. hop (channel_of h l i) (lane_of h l i)
+hop_again h l = let lane : virtual h % 8 ≡ h.lane = omega arith in λ i. hop (channel_of h l i) (lane i)
 
 -- a host has one channel out
 pub out_is : (r : Rack) (u c : ℕ) → Host r u → Leaving r u c → channel_out r u ≡ Some c
 out_is r u c host leaving =
-    let one = one_out r u host in
     least_some (λ d. eqb (tail r d) u) 0 (channel_count r) c (omega arith) (omega (arith, leaving.0)) (eq-eqb (tail r c) u leaving.1)
-    (λ i l m. ne_eqb (tail r i) u (λ e. let same : i ≡ c = one.2 i (omega (arith, leaving.0), e) ∙ sym (one.2 c leaving) in omega arith))
+    (λ i l m. ne_eqb (tail r i) u (λ e. let same : i ≡ c = only_out r u i c host (omega (arith, leaving.0), e) leaving in omega arith))
 
 -- where packets start, and where they go on
 abbrev pub from_channel : Option ℕ → Onward
@@ -63,44 +59,31 @@ leads s x d =
 abbrev pub rules : Setup → Rules Delivery
 rules s = record { room = λ x. s.depth; start = starts s; onward = leads s }
 
-not_true : (b : Bool) → not b ≡ true → b ≡ false
-not_true true e = sym e
-not_true false e = refl
-
-pub same_to : (x y : ℕ) → to x ≡ to y → x ≡ y
-same_to x y e = cc
-
 module _ (s : Setup) (d : Delivery) where
+  -- the test of a start
+  abbrev starting : Bool
+  starting = is_end s.routes.rack d.pair.sender.0 && (is_end s.routes.rack d.pair.receiver.0 && not (eqb d.pair.sender.0 d.pair.receiver.0))
+
   -- a packet that starts is of two different hosts, and starts on the channel out of its sender
   pub starts_pair : (x : ℕ) → starts s d ≡ to x → PairHere s d.pair
-  starts_pair x e = go (is_end r u && (is_end r v && not (eqb u v))) refl e
-    where
-      r : Rack
-      r = s.routes.rack
-
-      u : ℕ
-      u = d.pair.sender.0
-
-      v : ℕ
-      v = d.pair.receiver.0
-
-      go : (b : Bool) → is_end r u && (is_end r v && not (eqb u v)) ≡ b → cond b (from_channel (channel_out r u)) nowhere ≡ to x → PairHere s d.pair
-      go true t q =
-          let a = both_fst (is_end r u) (is_end r v && not (eqb u v)) t in
-          let b = both_snd (is_end r u) (is_end r v && not (eqb u v)) t in
-          (eqb-true (get_or (nodes_of r) u 0) 1 a, eqb-true (get_or (nodes_of r) v 0) 1 (both_fst (is_end r v) (not (eqb u v)) b), eqb-false u v (not_true (eqb u v) (both_snd (is_end r v) (not (eqb u v)) b)))
-      go false t q = absurd cc
+  starts_pair x e =
+      ⊎_elim
+      (λ (t : starting ≡ true). grind (arith, nat_tests))
+      (λ (f : starting ≡ false). absurd (let out = sym (cond-false starting _ _ f) ∙ e in cc))
+      (cases_Bool starting)
 
   pub pair_starts : (c : ℕ) → PairHere s d.pair → Leaving s.routes.rack d.pair.sender.0 c → starts s d ≡ to (8 * c)
   pair_starts c pair leaving =
-      let r = s.routes.rack in
-      let u = d.pair.sender.0 in
-      let v = d.pair.receiver.0 in
-      cond_true _ _ _ (both (is_end r u) (is_end r v && not (eqb u v)) (end_yes r u pair.0) (both (is_end r v) (not (eqb u v)) (end_yes r v pair.1) (ap not (ne_eqb u v pair.2))))
-      ∙ ap from_channel (out_is r u c pair.0 leaving)
+      let t : starting ≡ true = grind (arith, nat_tests) in
+      cond-true starting _ _ t ∙ ap from_channel (out_is s.routes.rack d.pair.sender.0 c pair.0 leaving)
 
 -- the path of a pair of a sound plan
-module _ (s : Setup) (ranged : Ranged s.lanes) (sound : Sound s.routes s.levels s.lanes) (p : Pair) (pair : PairHere s p) where
+-- a plan whose lane count is in range and that is sound
+pub record Good (s : Setup) : Type 0 where
+  pub ranged : Ranged s.lanes
+  pub sound : Sound s.routes s.levels s.lanes
+
+module _ {s : Setup} (good : Good s) (p : Pair) (pair : PairHere s p) where
   abbrev g : Routing
   g = s.routes
 
@@ -123,9 +106,6 @@ module _ (s : Setup) (ranged : Ranged s.lanes) (sound : Sound s.routes s.levels 
   pub out_leaves : Leaving r u out
   out_leaves = (one_out r u pair.0).1
 
-  pub only_out : (c : ℕ) → Leaving r u c → c ≡ out
-  only_out c leaving = (one_out r u pair.0).2 c leaving
-
   -- hop i of the path
   abbrev pub HopIs : ℕ → Hop → Type 0
   HopIs i h = hop_at g out v level i ≡ Some h
@@ -134,13 +114,13 @@ module _ (s : Setup) (ranged : Ranged s.lanes) (sound : Sound s.routes s.levels 
   path_is = ap (path_from s p) (out_is r u out pair.0 out_leaves)
 
   fine : FinePair g s.levels s.lanes u v
-  fine = sound.pairs u v pair
+  fine = good.sound.pairs u v pair
 
   pub low : (i : ℕ) (h : Hop) → HopIs i h → h.lane < s.lanes
   low i h e = fine.low i h (out, out_leaves, e)
 
   pub narrow : (i : ℕ) (h : Hop) → HopIs i h → h.lane < 8
-  narrow i h e = omega (arith, low i h e, ranged.1)
+  narrow i h e = omega (arith, low i h e, good.ranged.1)
 
   pub below : (i : ℕ) (h : Hop) → HopIs i h → h.channel < channel_count r
   below i h e = hop_below g v level out out_leaves.0 i h e
@@ -171,7 +151,7 @@ module _ (s : Setup) (ranged : Ranged s.lanes) (sound : Sound s.routes s.levels 
     pub goes_on : (i : ℕ) (k : Hop) → HopIs i k → i < n → (enters_switch r k.channel ≡ true) × ((o : Hop) × HopIs (suc i) o)
     goes_on i k e l =
         let b = before g out v level i n h l last.is in
-        let same : b.0 ≡ k = some_same _ _ (sym b.1 ∙ e) in (
+        let same : b.0 ≡ k = same_Some _ _ (sym b.1 ∙ e) in (
           subst (λ (x : Hop). enters_switch r x.channel ≡ true) same b.2,
           ⊎_elim
               (λ (q : suc i ≡ n). (h, subst (λ m. HopIs m h) (sym q) last.is))
@@ -187,21 +167,20 @@ module _ (s : Setup) (ranged : Ranged s.lanes) (sound : Sound s.routes s.levels 
 
   -- a hop that enters a switch does not enter the receiver
   pub not_home : (c : ℕ) → enters_switch r c ≡ true → head r c ≡ v → ⊥
-  not_home c sw e = true_false _ sw (into_host g c v pair.1 e)
+  not_home c sw e = both_ways _ (into_host g c v pair.1 e) sw
 
   -- where a packet of the pair goes from a hop of its path
   module _ (d : Delivery) (its : d.pair ≡ p) where
     -- home, from a hop that enters the receiver
     pub leads_home : (x : ℕ) → head r (x / 8) ≡ v → leads s x d ≡ home
-    leads_home x e = cond_true _ _ _ (eq-eqb (head r (x / 8)) d.pair.receiver.0 (e ∙ ap (λ (q : Pair). q.receiver.0) (sym its)))
+    leads_home x e = cond-true _ _ _ (eq-eqb (head r (x / 8)) d.pair.receiver.0 (e ∙ ap (λ (q : Pair). q.receiver.0) (sym its)))
 
-    pub leads_on : (x : ℕ) (k o : Hop) → x ≡ virtual k → k.lane < 8 → enters_switch r k.channel ≡ true → behind g v level (Some k) ≡ Some o → leads s x d ≡ to (virtual o)
-    leads_on x k o is narrow_k sw next =
-        let c : x / 8 ≡ k.channel = ap (λ n. n / 8) is ∙ channel_of k narrow_k in
-        let other : head r (x / 8) ≡ d.pair.receiver.0 → ⊥ = λ e. not_home k.channel sw (ap (head r) (sym c) ∙ e ∙ ap (λ (q : Pair). q.receiver.0) its) in
-        let there : behind g d.pair.receiver.0 (level_for s d.pair) (Some (hop (x / 8) (x % 8))) ≡ Some o =
-        ap (λ (q : Pair). behind g q.receiver.0 (level_for s q) (Some (hop (x / 8) (x % 8)))) its ∙ ap (λ n. behind g v level (Some (hop (n / 8) (n % 8)))) is ∙ ap (λ y. behind g v level (Some y)) (hop_again k narrow_k) ∙ next in
-        cond_false _ _ _ (ne_eqb (head r (x / 8)) d.pair.receiver.0 other) ∙ ap on_hop there
+    -- on, to the hop behind one that enters a switch
+    pub leads_on : (x : ℕ) (o : Hop) → enters_switch r (x / 8) ≡ true → behind g v level (Some (hop (x / 8) (x % 8))) ≡ Some o → leads s x d ≡ to (virtual o)
+    leads_on x o sw next =
+        let other : head r (x / 8) ≡ d.pair.receiver.0 → ⊥ = λ e. not_home (x / 8) sw (e ∙ ap (λ (q : Pair). q.receiver.0) its) in
+        let there = ap (λ (q : Pair). behind g q.receiver.0 (level_for s q) (Some (hop (x / 8) (x % 8)))) its ∙ next in
+        cond-false _ _ _ (ne_eqb (head r (x / 8)) d.pair.receiver.0 other) ∙ ap on_hop there
 
     list_on : (i m : ℕ) (k : Hop) → HopIs i k → hops_on g out v level i (suc m) ≡ virtual k ∷ hops_on g out v level (suc i) m
     list_on i m k e = ap (λ o. then_on o (hops_on g out v level (suc i) m)) e
@@ -210,7 +189,7 @@ module _ (s : Setup) (ranged : Ranged s.lanes) (sound : Sound s.routes s.levels 
     walks n h last j i zero k sum more e = absurd (omega arith)
     walks n h last zero i (suc m) k sum more e =
         let i_is : i ≡ n = omega arith in
-        let same : k ≡ h = some_same _ _ (sym e ∙ ap (hop_at g out v level) i_is ∙ last.is) in
+        let same : k ≡ h = same_Some _ _ (sym e ∙ ap (hop_at g out v level) i_is ∙ last.is) in
         let at_v : head r k.channel ≡ v = ap (λ (x : Hop). head r x.channel) same ∙ last.home in
         let over : hop_at g out v level (suc i) ≡ None = ap (behind g v level) e ∙ behind_ends g v level k (into_host g k.channel v pair.1 at_v) in
         let list : hops_on g out v level i (suc m) ≡ virtual k ∷ [] = list_on i m k e ∙ ap (λ l. virtual k ∷ l) (no_more g out v level (suc i) m over) in
@@ -218,9 +197,9 @@ module _ (s : Setup) (ranged : Ranged s.lanes) (sound : Sound s.routes s.levels 
     walks n h last (suc j) i (suc m) k sum more e =
         let b = goes_on n h last i k e (omega arith) in
         let o = b.1.0 in
-        let next : behind g v level (Some k) ≡ Some o = ap (behind g v level) (sym e) ∙ b.1.1 in
+        let on = subst (λ (z : Hop). (enters_switch r z.channel ≡ true) × (behind g v level (Some z) ≡ Some o)) (sym (hop_again k (narrow i k e))) (b.0, ap (behind g v level) (sym e) ∙ b.1.1) in
         subst (Path (rules s) d (virtual k)) (sym (list_on i m k e))
-        (goes (leads_on (virtual k) k o refl (narrow i k e) b.0 next) (walks n h last j (suc i) m o (omega arith) (omega arith) b.1.1))
+        (goes (leads_on (virtual k) o on.0 on.1) (walks n h last j (suc i) m o (omega arith) (omega arith) b.1.1))
 
     pub its_path : Path (rules s) d (8 * out) (path_of s d)
     its_path =
@@ -241,18 +220,19 @@ module _ (s : Setup) (ranged : Ranged s.lanes) (sound : Sound s.routes s.levels 
       record { sender = u; receiver = v; place = b.0; one = b.1; other = b.2; pair = pair; uses = (out, out_leaves, b.3); then = (out, out_leaves, b.4); from = b.5; to = b.6 }
 
 -- a sound plan routes every packet
-pub routed : (s : Setup) → Ranged s.lanes → 1 ≤ s.depth → Sound s.routes s.levels s.lanes → Routed (rules s) (queue_count s) (path_of s)
-routed s ranged deep sound = record {
+pub routed : {s : Setup} → Good s → 1 ≤ s.depth → Routed (rules s) (queue_count s) (path_of s)
+routed {s = s} good deep = record {
   roomy = λ x. deep;
   path = λ d x e.
       let pair = starts_pair s d x e in
-      let o = out s ranged sound d.pair pair in
-      let same : 8 * o ≡ x = same_to (8 * o) x (sym (pair_starts s d o pair (out_leaves s ranged sound d.pair pair)) ∙ e) in
-      subst (λ y. Path (rules s) d y (path_of s d)) same (its_path s ranged sound d.pair pair d refl);
-  within = λ d x e. its_inside s ranged sound d.pair (starts_pair s d x e);
-  once = λ d x e. its_once s ranged sound d.pair (starts_pair s d x e);
-  free = λ at len ring. sound.no_ring at len (record { some = ring.some; steps = λ i l. follow (at i) (at (i + 1)) (ring.steps i l); closes = follow (at (len - 1)) (at 0) ring.closes; apart = ring.apart });
+      let o = out good d.pair pair in
+      let first = sym (pair_starts s d o pair (out_leaves good d.pair pair)) ∙ e in
+      let same : 8 * o ≡ x = cc in
+      subst (λ y. Path (rules s) d y (path_of s d)) same (its_path good d.pair pair d refl);
+  within = λ d x e. its_inside good d.pair (starts_pair s d x e);
+  once = λ d x e. its_once good d.pair (starts_pair s d x e);
+  free = λ at len ring. good.sound.no_ring at len (record { some = ring.some; steps = λ i l. follow (at i) (at (i + 1)) (ring.steps i l); closes = follow (at (len - 1)) (at 0) ring.closes; apart = ring.apart });
 }
   where
     follow : (x y : ℕ) → Followed (rules s) (path_of s) x y → Follows s.routes s.levels x y
-    follow x y f = its_follows s ranged sound f.packet.pair (starts_pair s f.packet f.first f.starts) x y f.next
+    follow x y f = its_follows good f.packet.pair (starts_pair s f.packet f.first f.starts) x y f.next

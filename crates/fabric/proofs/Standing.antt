@@ -1,9 +1,8 @@
 -- Who waits in the queues of a rack, as calls change it. Assumes nothing.
 use Rattle.std.proofs.Common.{◌≡◌, ℕ, zero, suc, ◌<◌, ◌≤◌, List, [], ◌∷◌, ◌++◌, map, length, get_or, take, set, sym, refl, ap, ◌∙◌, ⊎_elim, arith, length-take, get_or-take}
-use lib.ListN.{length-map}
-use lib.Seq.{map-set, take-set-lt}
+use Rattle.std.proofs.Math.Seq.{take-set-lt}
 use Rattle.std.specs.Prelude.{All}
-use Rattle.std.proofs.lemmas.List.{get_or-map, get_or_past, map-append}
+use Rattle.std.proofs.lemmas.List.{get_or-map, get_or_past, length-map, map-append, map-set}
 use Rattle.std.proofs.lemmas.List.Elements.{All-weaker}
 use Rattle.std.proofs.lemmas.Bool.{cases_lt}
 use Rattle.courses.specs.Queues.{Queues, at, push}

@@ -18,6 +18,7 @@ pub record Padded (packets : List Packet) (n : ℕ) : Type 0 where
 abbrev pub padded : List Packet → List Packet
 padded ps = ps ++ replicate (8 - length ps) no_packet
 
+-- the used places, padded again, are all eight; it stands here because the type of queues cites it
 pub padded-take : (packets : List Packet) (n : ℕ) → Padded packets n → (padded (take n packets) ≡ packets) × (length (take n packets) ≡ n)
 padded-take packets n h =
     let long : length (take n packets) ≡ n = omega (arith, length-take n packets, h.few, h.eight) in

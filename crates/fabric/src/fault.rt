@@ -69,7 +69,7 @@ impl FabricFault {
         }
     }
 
-    // The hop that the refusal is about; 0 where it is about none, as in the line that tells a refusal, and the fault of a walk tells its own.
+    // The hop that the refusal is about; the fault of a walk tells its own. 0 where it is about none, as `WalkFault::hop` has it.
     pub fn hop(self) -> u16
         ensures { result ≡ (fabric_refusal self).hop }
     {
@@ -79,7 +79,7 @@ impl FabricFault {
         }
     }
 
-    // The fault of a walk, as it was handed up. Three layers have this question, and no function asks it of more than one: a trait would say it a fourth time.
+    // The fault of a walk, as it was handed up. Three layers have this question; a trait would leave each of them this body.
     pub fn walk(self) -> Option<WalkFault>
         ensures { result ≡ (fabric_refusal self).walk }
     {

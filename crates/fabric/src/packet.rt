@@ -92,14 +92,16 @@ impl Packet {
             hop: self.hop,
         }
     }
+}
 
-    // What is told of the packet when it is taken.
-    pub(crate) fn delivery(self) -> Delivery
-        ensures { result ≡ delivery self }
-    {
+// What is told of the packet when it is taken.
+impl From<Packet> for Delivery {
+    ghost from_gives = { λ p d. d ≡ delivery p };
+
+    fn from(packet: Packet) -> Delivery {
         Delivery {
-            pair: self.pair,
-            tag: self.tag,
+            pair: packet.pair,
+            tag: packet.tag,
         }
     }
 }

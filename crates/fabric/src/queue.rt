@@ -5,7 +5,7 @@ use std::marker::Model;
 pub mod entries;
 pub(crate) mod row;
 
-// Up to eight packets, the first to leave first.
+// Up to eight packets, the first to leave first. An array and a count, and no `Vec`: queues are lent, and take no memory of their own.
 #[derive(Clone, Copy)]
 pub struct Queue {
     packets: [Packet; 8],

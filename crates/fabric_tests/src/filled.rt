@@ -1,48 +1,42 @@
 // A fabric filled to the brim and drained again.
-use crate::bench::{Bench, acceptance, queues};
+use crate::bench::{Bench, acceptance};
+use crate::course::{Course, queues};
 use crate::rows::{No, Say};
 use fabric::call::{Call, Done};
-use fabric::fabric::Fabric;
 use fabric::packet::VirtualChannel;
-use fabric::queue::Queue;
-use std::alloc::{AllocError, Global};
+use std::alloc::Global;
+use std::collections::BTreeMap;
 use std::process::Abort;
 use std::test::*;
 
-// Sender and receiver of each pair. The packets of a pair have the tags 0, 1, 2 and so on; at place 3u + v of a table of tags stands the next one of the pair u, v.
+// Sender and receiver of each pair.
 const PAIRS: [(u16, u16); 6] = [(0, 1), (0, 2), (1, 0), (1, 2), (2, 0), (2, 1)];
 
-fn no_tags(heap: Global) -> Result<Vec<u32>, AllocError> {
-    vec![in heap; 0u32; 9]
+// The packets of a pair have the tags 0, 1, 2 and so on; by sender and receiver the next one, where it is not 0.
+#[derive(Drop)]
+struct Tags {
+    next: BTreeMap<(u16, u16), u32>,
 }
 
-fn place(u: u16, v: u16) -> usize {
-    3 * usize::from(u) + usize::from(v)
-}
+impl Tags {
+    fn next(&self, u: u16, v: u16) -> u32 {
+        self.next.get(&(u, v)).copied().unwrap_or(0)
+    }
 
-fn next_tag(tags: &Vec<u32>, u: u16, v: u16) -> u32 {
-    tags.get(place(u, v)).copied().unwrap_or(0)
-}
-
-fn count_tag(tags: &mut Vec<u32>, u: u16, v: u16) {
-    if let Some(tag) = tags.get_mut(place(u, v)) {
+    fn count(&mut self, u: u16, v: u16) -> Result<(), Fail> {
+        let tag = self.next.entry((u, v))?.or_insert(0);
         *tag = tag.saturating_add(1);
+        Ok(())
     }
 }
 
 // A packet of each pair, or no room for it; how many came in.
-fn admit_all(
-    rt: &impl Abort,
-    bench: &Bench,
-    fabric: &Fabric,
-    queues: &mut Vec<Queue>,
-    tags: &mut Vec<u32>,
-) -> Result<u32, Fail> {
+fn admit_all(rt: &impl Abort, course: &mut Course, tags: &mut Tags) -> Result<u32, Fail> {
     let mut count = 0u32;
     for (u, v) in PAIRS {
-        let said = bench.admit(fabric, queues, u, v, next_tag(tags, u, v));
+        let said = course.admit(u, v, tags.next(u, v));
         if said == Ok(Say::Admitted) {
-            count_tag(tags, u, v);
+            tags.count(u, v)?;
             count = count.saturating_add(1);
         } else {
             assert!(rt; said == Err(No::For(33, u, v, 0)));
@@ -52,108 +46,55 @@ fn admit_all(
 }
 
 // A forward from each virtual channel; how many moved.
-fn forward_all(
-    heap: Global,
-    bench: &Bench,
-    fabric: &Fabric,
-    queues: &mut Vec<Queue>,
-) -> Result<u32, Fail> {
-    let mut calls = Vec::new(heap);
-    for x in 0..96u16 {
-        calls.push(Call::Forward(VirtualChannel(x)))?;
-    }
-    let answers = bench.run(heap, fabric, queues, &calls)?;
-    let mut count = 0u32;
-    for answer in answers.iter() {
-        if let Ok(Done::Forwarded(_, _)) = *answer {
-            count = count.saturating_add(1);
-        }
-    }
-    Ok(count)
+fn forward_all(heap: Global, course: &mut Course) -> Result<usize, Fail> {
+    let calls: Vec<Call> = (0..96u16)
+        .map(|x| Call::Forward(VirtualChannel(x)))
+        .collect(heap)?;
+    let answers = course.run(heap, &calls)?;
+    Ok(
+        answers
+            .iter()
+            .filter(|answer| matches!(answer, Ok(Done::Forwarded(_, _))))
+            .count(),
+    )
 }
 
 // A take from each virtual channel; how many went out, each the next of its pair.
-fn take_all(
-    rt: &impl Abort,
-    bench: &Bench,
-    fabric: &Fabric,
-    queues: &mut Vec<Queue>,
-    tags: &mut Vec<u32>,
-) -> Result<u32, Fail> {
+fn take_all(rt: &impl Abort, course: &mut Course, tags: &mut Tags) -> Result<u32, Fail> {
     let mut count = 0u32;
     for x in 0..96u16 {
-        if let Ok(Say::Taken(u, v, tag)) = bench.take(fabric, queues, x) {
-            assert!(rt; tag == next_tag(tags, u, v));
-            count_tag(tags, u, v);
+        if let Ok(Say::Taken(u, v, tag)) = course.take(x) {
+            assert!(rt; tag == tags.next(u, v));
+            tags.count(u, v)?;
             count = count.saturating_add(1);
         }
     }
     Ok(count)
 }
 
-// This and `drain` differ in one call, which takes what the round changes: no shorter with a closure.
-// Rounds of admitting and forwarding, until nothing comes in and nothing moves; then 75 packets came in.
-fn fill(
+// Rounds of a step and of forwarding, until neither moves a packet; then the steps moved 75. There are more rounds than that takes, so that what never stands still fails the test.
+fn rounds<F: Fn(&mut Course, &mut Tags) -> Result<u32, Fail>>(
     rt: &impl Abort,
     heap: Global,
-    bench: &Bench,
-    fabric: &Fabric,
-    queues: &mut Vec<Queue>,
-    tags: &mut Vec<u32>,
-) -> Result<(), Fail> {
+    course: &mut Course,
+    most: u32,
+    step: F,
+) -> Result<Tags, Fail>
+    requires { F.IsAlwaysCallable step }
+{
+    let mut tags = Tags {
+        next: BTreeMap::new(heap),
+    };
     let mut count = 0u32;
-    for _ in 0..40u32 {
-        let more = admit_all(rt, bench, fabric, queues, tags)?;
+    for _ in 0..most {
+        let more = step(course, &mut tags)?;
         count = count.saturating_add(more);
-        if forward_all(heap, bench, fabric, queues)? == 0 && more == 0 {
+        if forward_all(heap, course)? == 0 && more == 0 {
             assert!(rt; count == 75);
-            return Ok(());
+            return Ok(tags);
         }
     }
     Err(Fail::new("not still"))
-}
-
-// Rounds of taking and forwarding, until nothing moves; then 75 packets went out.
-fn drain(
-    rt: &impl Abort,
-    heap: Global,
-    bench: &Bench,
-    fabric: &Fabric,
-    queues: &mut Vec<Queue>,
-    tags: &mut Vec<u32>,
-) -> Result<(), Fail> {
-    let mut count = 0u32;
-    for _ in 0..60u32 {
-        let more = take_all(rt, bench, fabric, queues, tags)?;
-        count = count.saturating_add(more);
-        if forward_all(heap, bench, fabric, queues)? == 0 && more == 0 {
-            assert!(rt; count == 75);
-            return Ok(());
-        }
-    }
-    Err(Fail::new("not still"))
-}
-
-// As many packets of each pair came in and went out.
-fn same(rt: &impl Abort, came: &Vec<u32>, left: &Vec<u32>) -> Result<(), Fail> {
-    for (u, v) in PAIRS {
-        assert!(rt; next_tag(came, u, v) == next_tag(left, u, v));
-    }
-    Ok(())
-}
-
-fn through(
-    rt: &impl Abort,
-    heap: Global,
-    bench: &Bench,
-    fabric: &Fabric,
-    queues: &mut Vec<Queue>,
-) -> Result<(), Fail> {
-    let mut came = no_tags(heap)?;
-    fill(rt, heap, bench, fabric, queues, &mut came)?;
-    let mut left = no_tags(heap)?;
-    drain(rt, heap, bench, fabric, queues, &mut left)?;
-    same(rt, &came, &left)
 }
 
 // Filled and drained: each packet came out once, and those of a pair in their order.
@@ -161,8 +102,14 @@ fn through(
 fn filled_and_drained(rt: HostRuntime) -> Result<(), Fail> {
     let heap = rt.alloc();
     let bench = Bench::two_lanes(heap, 36)?;
-    let mut queues = queues(heap, 96)?;
-    let fabric = bench.opened(acceptance(&rt, heap)?, 8, &mut queues)?;
-    through(&rt, heap, &bench, &fabric, &mut queues)?;
-    bench.closed(&rt, fabric, &queues, 0)
+    let mut course = Course::open(bench, acceptance(&rt, heap)?, 8, queues(heap, 96)?)?;
+    let came = rounds(&rt, heap, &mut course, 40, |course, tags| {
+        admit_all(&rt, course, tags)
+    })?;
+    let left = rounds(&rt, heap, &mut course, 60, |course, tags| {
+        take_all(&rt, course, tags)
+    })?;
+    assert!(rt; came.next == left.next);
+    course.closed(&rt, 0)?;
+    Ok(())
 }

@@ -4,9 +4,9 @@
 #[cfg(test)]
 mod bench;
 #[cfg(test)]
-mod filled;
+mod course;
 #[cfg(test)]
-mod racks;
+mod filled;
 #[cfg(test)]
 mod refusals;
 #[cfg(test)]

@@ -1,9 +1,9 @@
 // Every refusal of the fabric, with its number, its pair and its hop.
-use crate::bench::{Bench, acceptance, queues};
-use crate::rows::{Ask, No, Say, tell};
+use crate::bench::{Bench, acceptance};
+use crate::course::{Course, queues, two_lane_course};
+use crate::rows::{Ask, No, Say};
 use checking::acceptance::Acceptance;
 use fabric::fabric::Fabric;
-use fabric::queue::Queue;
 use std::alloc::Global;
 use std::process::Abort;
 use std::test::*;
@@ -53,9 +53,7 @@ const CALLS: [(Ask, Result<Say, No>); 36] = [
 
 #[test]
 fn of_calls(rt: HostRuntime) -> Result<(), Fail> {
-    let heap = rt.alloc();
-    let mut bench = Bench::two_lanes(heap, 36)?;
-    bench.course(&rt, heap, acceptance(&rt, heap)?, 1, &CALLS, 3)
+    two_lane_course(&rt, rt.alloc(), &CALLS, 3)
 }
 
 // The source or the map is wrong at the next hop of a packet from 0 to 2.
@@ -88,36 +86,78 @@ const NEXT_HOPS: [(Ask, Result<Say, No>); 20] = [
 
 #[test]
 fn of_next_hops(rt: HostRuntime) -> Result<(), Fail> {
-    let heap = rt.alloc();
-    let mut bench = Bench::two_lanes(heap, 36)?;
-    bench.course(&rt, heap, acceptance(&rt, heap)?, 1, &NEXT_HOPS, 1)
+    two_lane_course(&rt, rt.alloc(), &NEXT_HOPS, 1)
 }
 
-// Lane count, places of the path table and of the queues, and the number of the refusal: the lane count is told first.
-const STARTS: [(u8, usize, usize, u8); 5] = [
-    (0, 36, 96, 10),
-    (9, 36, 96, 10),
-    (9, 35, 95, 10),
-    (2, 35, 96, 9),
-    (2, 36, 95, 9),
+// What a call is asked with, and the number of its refusal.
+#[derive(Clone, Copy)]
+struct Start {
+    // the lane count
+    count: u8,
+    // the places of the path table and of the queues
+    levels: usize,
+    places: usize,
+    number: u8,
+}
+
+// Nothing is wrong with these; the number is that of a depth that is.
+const FITTING: Start = Start {
+    count: 2,
+    levels: 36,
+    places: 96,
+    number: 10,
+};
+
+// The lane count is told first.
+const STARTS: [Start; 5] = [
+    Start {
+        count: 0,
+        ..FITTING
+    },
+    Start {
+        count: 9,
+        ..FITTING
+    },
+    Start {
+        count: 9,
+        levels: 35,
+        places: 95,
+        number: 10,
+    },
+    Start {
+        levels: 35,
+        number: 9,
+        ..FITTING
+    },
+    Start {
+        places: 95,
+        number: 9,
+        ..FITTING
+    },
 ];
 
-// Not opened, and the acceptance comes back.
+impl Start {
+    fn bench(self, heap: Global) -> Result<Bench, Fail> {
+        let mut bench = Bench::one_lane(heap, self.levels)?;
+        bench.count = self.count;
+        Ok(bench)
+    }
+}
+
+// Not opened, and the acceptance comes back. `not_started` has the same match, over another call and with another type that comes back; one function for both would take three closures.
 fn not_opened(
     rt: &impl Abort,
     heap: Global,
     acceptance: Acceptance,
     depth: u8,
-    row: (u8, usize, usize, u8),
+    start: Start,
 ) -> Result<Acceptance, Fail> {
-    let (count, levels, places, number) = row;
-    let mut bench = Bench::one_lane(heap, levels)?;
-    bench.count = count;
-    let mut queues = queues(heap, places)?;
+    let bench = start.bench(heap)?;
+    let mut queues = queues(heap, start.places)?;
     match bench.open(acceptance, depth, &mut queues) {
         Ok(_) => Err(Fail::new("opened")),
         Err(not) => {
-            assert!(rt; tell(not.fault) == No::Plain(number));
+            assert!(rt; No::from(not.fault) == No::Plain(start.number));
             Ok(not.acceptance)
         }
     }
@@ -128,58 +168,46 @@ fn not_started(
     rt: &impl Abort,
     heap: Global,
     fabric: Fabric,
-    row: (u8, usize, usize, u8),
+    start: Start,
 ) -> Result<Fabric, Fail> {
-    let (count, levels, places, number) = row;
-    let mut bench = Bench::one_lane(heap, levels)?;
-    bench.count = count;
-    let mut queues = queues(heap, places)?;
-    let told = No::Plain(number);
+    let told = No::Plain(start.number);
     let rows = [
         (Ask::Admit(0, 0, 1), Err(told)),
         (Ask::Forward(65535), Err(told)),
         (Ask::Take(0), Err(told)),
     ];
-    bench.rows(rt, &fabric, &mut queues, &rows)?;
-    match bench.close(fabric, &queues) {
+    let mut course = Course {
+        bench: start.bench(heap)?,
+        fabric,
+        queues: queues(heap, start.places)?,
+    };
+    course.rows(rt, &rows)?;
+    let (told_at_close, _) = course.close();
+    match told_at_close {
         Ok(_) => Err(Fail::new("closed")),
         Err(not) => {
-            assert!(rt; tell(not.fault) == told);
+            assert!(rt; No::from(not.fault) == told);
             Ok(not.fabric)
         }
     }
-}
-
-// The acceptance comes back each time.
-fn none_opened(
-    rt: &impl Abort,
-    heap: Global,
-    mut acceptance: Acceptance,
-) -> Result<Acceptance, Fail> {
-    for row in STARTS {
-        acceptance = not_opened(rt, heap, acceptance, 1, row)?;
-    }
-    for depth in [0, 9] {
-        acceptance = not_opened(rt, heap, acceptance, depth, (2, 36, 96, 10))?;
-    }
-    Ok(acceptance)
-}
-
-// The fabric comes back each time.
-fn none_started(rt: &impl Abort, heap: Global, mut fabric: Fabric) -> Result<Fabric, Fail> {
-    for row in STARTS {
-        fabric = not_started(rt, heap, fabric, row)?;
-    }
-    Ok(fabric)
 }
 
 // A lane count, a table or a depth is wrong; then the acceptance that came back opens, and the fabric that came back is closed.
 #[test]
 fn of_tables(rt: HostRuntime) -> Result<(), Fail> {
     let heap = rt.alloc();
-    let token = none_opened(&rt, heap, acceptance(&rt, heap)?)?;
+    let mut token = acceptance(&rt, heap)?;
+    for start in STARTS {
+        token = not_opened(&rt, heap, token, 1, start)?;
+    }
+    for depth in [0, 9] {
+        token = not_opened(&rt, heap, token, depth, FITTING)?;
+    }
     let bench = Bench::two_lanes(heap, 36)?;
-    let mut queues = queues(heap, 96)?;
-    let fabric = none_started(&rt, heap, bench.opened(token, 8, &mut queues)?)?;
-    bench.closed(&rt, fabric, &queues, 0)
+    let mut course = Course::open(bench, token, 8, queues(heap, 96)?)?;
+    for start in STARTS {
+        course.fabric = not_started(&rt, heap, course.fabric, start)?;
+    }
+    course.closed(&rt, 0)?;
+    Ok(())
 }

@@ -1,8 +1,10 @@
 // Calls and answers in plain numbers, as the tables of the tests have them.
 use fabric::call::Done;
 use fabric::fault::FabricFault;
+use fabric::packet::Delivery;
 use routing::pair::Pair;
 
+// The rows of a table of calls; a call is data, since a table can hold no closures.
 #[derive(Clone, Copy)]
 pub enum Ask {
     // sender, receiver and tag
@@ -33,35 +35,40 @@ pub enum No {
     Plain(u8),
     // its number, and the pair and the hop that it is about
     For(u8, u16, u16, u16),
-    // it has no number
-    NoNumber,
+    // want of memory, the one refusal without a number
+    Memory,
 }
 
 fn refused(number: Option<u8>, pair: Option<Pair>, hop: u16) -> No {
     match (number, pair) {
         (Some(number), Some(pair)) => No::For(number, pair.sender.0, pair.receiver.0, hop),
         (Some(number), None) => No::Plain(number),
-        _ => No::NoNumber,
+        (None, _) => No::Memory,
     }
 }
 
 // What is told of a refusal; of the fault of a walk, what that tells.
-pub fn tell(fault: FabricFault) -> No {
-    match fault.walk() {
-        Some(walk) => refused(walk.number(), walk.pair(), walk.hop()),
-        None => refused(fault.number(), fault.about(), fault.hop()),
+impl From<FabricFault> for No {
+    fn from(fault: FabricFault) -> No {
+        match fault.walk() {
+            Some(walk) => refused(walk.number(), walk.pair(), walk.hop()),
+            None => refused(fault.number(), fault.about(), fault.hop()),
+        }
+    }
+}
+
+impl From<Done> for Say {
+    fn from(done: Done) -> Say {
+        match done {
+            Done::Admitted => Say::Admitted,
+            Done::Forwarded(channel, lane) => Say::Forwarded(channel.0, lane.number()),
+            Done::Taken(Delivery { pair, tag }) => {
+                Say::Taken(pair.sender.0, pair.receiver.0, tag)
+            }
+        }
     }
 }
 
 pub fn spoken(answer: Result<Done, FabricFault>) -> Result<Say, No> {
-    match answer {
-        Ok(Done::Admitted) => Ok(Say::Admitted),
-        Ok(Done::Forwarded(channel, lane)) => Ok(Say::Forwarded(channel.0, lane.number())),
-        Ok(Done::Taken(delivery)) => Ok(Say::Taken(
-            delivery.pair.sender.0,
-            delivery.pair.receiver.0,
-            delivery.tag,
-        )),
-        Err(fault) => Err(tell(fault)),
-    }
+    Ok(Say::from(answer?))
 }

@@ -1,9 +1,9 @@
 // Worked examples on the triangle that forwards clockwise.
-use crate::bench::{Bench, acceptance, queues};
+use crate::bench::{Bench, acceptance};
+use crate::course::{Course, check_course, queues, two_lane_course};
 use crate::rows::{Ask, No, Say};
 use fabric::queue::Queue;
 use routing::pair::Pair;
-use std::alloc::Global;
 use std::process::Abort;
 use std::test::*;
 
@@ -19,9 +19,7 @@ const PASSAGE: [(Ask, Result<Say, No>); 6] = [
 
 #[test]
 fn one_packet(rt: HostRuntime) -> Result<(), Fail> {
-    let heap = rt.alloc();
-    let mut bench = Bench::two_lanes(heap, 36)?;
-    bench.course(&rt, heap, acceptance(&rt, heap)?, 1, &PASSAGE, 0)
+    two_lane_course(&rt, rt.alloc(), &PASSAGE, 0)
 }
 
 // With one lane: three packets, each forwarded once. Then each waits for the queue of the next, and none is at its receiver.
@@ -44,12 +42,12 @@ const JAM: [(Ask, Result<Say, No>); 12] = [
 #[test]
 fn jammed(rt: HostRuntime) -> Result<(), Fail> {
     let heap = rt.alloc();
-    let mut bench = Bench::one_lane(heap, 36)?;
+    let bench = Bench::one_lane(heap, 36)?;
     match bench.accept(heap) {
         Ok(_) => return Err(Fail::new("accepted")),
         Err(fault) => assert!(rt; fault.number() == Some(25)),
     }
-    bench.course(&rt, heap, acceptance(&rt, heap)?, 1, &JAM, 3)
+    check_course(&rt, heap, bench, acceptance(&rt, heap)?, &JAM, 3)
 }
 
 // Two packets in queue 16.
@@ -69,23 +67,8 @@ const ALONG: [(Ask, Result<Say, No>); 7] = [
     (Ask::Take(40), Ok(Say::Taken(1, 2, 7))),
 ];
 
-// Has every queue hold two packets.
-fn two_in_each(
-    rt: &impl Abort,
-    heap: Global,
-    bench: &mut Bench,
-    queues: &mut Vec<Queue>,
-) -> Result<(), Fail> {
-    let fabric = bench.opened(acceptance(rt, heap)?, 2, queues)?;
-    bench.rows(rt, &fabric, queues, &TWO_WAIT)?;
-    if let Some(queue) = queues.get(16).copied() {
-        queues.fill(queue);
-    }
-    Ok(())
-}
-
 // The two packets wait in each queue from place 96 on, and nothing before.
-fn check_beyond(rt: &impl Abort, queues: &Vec<Queue>) -> Result<(), Fail> {
+fn check_beyond(rt: &impl Abort, queues: &[Queue]) -> Result<(), Fail> {
     for (k, queue) in queues.iter().enumerate() {
         match queue.first() {
             Some(packet) => assert!(rt;
@@ -98,25 +81,24 @@ fn check_beyond(rt: &impl Abort, queues: &Vec<Queue>) -> Result<(), Fail> {
     Ok(())
 }
 
-// One packet goes through beside them.
-fn beside_others(
-    rt: &impl Abort,
-    heap: Global,
-    bench: &mut Bench,
-    queues: &mut Vec<Queue>,
-) -> Result<(), Fail> {
-    let fabric = bench.opened(acceptance(rt, heap)?, 8, queues)?;
-    bench.rows(rt, &fabric, queues, &ALONG)?;
-    bench.closed(rt, fabric, queues, 0)
-}
-
 // Tables that are longer than needed: the queues beyond those of the rack keep what they hold, and do not count.
 #[test]
 fn queues_beyond(rt: HostRuntime) -> Result<(), Fail> {
     let heap = rt.alloc();
-    let mut bench = Bench::two_lanes(heap, 40)?;
-    let mut queues = queues(heap, 100)?;
-    two_in_each(&rt, heap, &mut bench, &mut queues)?;
-    beside_others(&rt, heap, &mut bench, &mut queues)?;
+    let bench = Bench::two_lanes(heap, 40)?;
+    let mut course = Course::open(bench, acceptance(&rt, heap)?, 2, queues(heap, 100)?)?;
+    course.rows(&rt, &TWO_WAIT)?;
+    let Course {
+        bench,
+        mut queues,
+        ..
+    } = course;
+    // every queue holds two packets
+    if let Some(queue) = queues.get(16).copied() {
+        queues.fill(queue);
+    }
+    let mut course = Course::open(bench, acceptance(&rt, heap)?, 8, queues)?;
+    course.rows(&rt, &ALONG)?;
+    let queues = course.closed(&rt, 0)?;
     check_beyond(&rt, &queues)
 }

@@ -1,7 +1,7 @@
 // Reads a rack file from standard input, and prints what the console answers.
 #![tactic(auto)]
 
-ghost use Rattle.std.specs.Prelude.{◌≡◌, take, IfOk, IfSome};
+ghost use Rattle.std.specs.Prelude.{◌≡◌, ◌≤◌, length, take, IfOk, IfSome};
 
 use report::report::report;
 use std::alloc::Global;
@@ -13,10 +13,13 @@ const MOST: u64 = 4096;
 
 // The bytes of the input, up to the most that are read.
 fn read_most<R: Read + Drop>(heap: Global, input: R) -> io::Result<Vec<u8>>
-    ensures { IfOk result (λ file. IfSome (R.remaining input) (λ bytes. file.items ≡ take MOST bytes)) }
+    ensures bytes { IfOk result (λ file. IfSome (R.remaining input) (λ bytes. file.items ≡ take MOST bytes)) }
+    ensures few { IfOk result (λ file. length file.items ≤ MOST) }
 {
     let mut file = Vec::new(heap);
     input.take(MOST).read_to_end(&mut file)?;
+    // no more than this is read; of a reader that is not known, only this line says so
+    file.truncate(MOST as usize);
     Ok(file)
 }
 

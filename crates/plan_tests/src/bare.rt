@@ -1,10 +1,10 @@
 // The bare check, over channels, on the dependency tables of plans.
 use crate::line::RAISED_ONCE;
-use crate::plans::{build_stored, check_stored};
-use crate::racks::{CLOCKWISE, line, triangle};
-use crate::tables::{Tables, Work, at, check_ring, check_table};
+use crate::plans::Bench;
+use crate::tables::{Work, check_ring, check_table, put};
 use checking::bare::check_channels;
 use checking::fault::CheckFault;
+use example_racks::{CLOCKWISE, line, triangle};
 use rack::rack::Rack;
 use std::alloc::{AllocError, Global};
 use std::process::Abort;
@@ -14,9 +14,7 @@ use std::test::*;
 fn words(heap: Global, channels: u16, entries: &[(usize, u64)]) -> Result<Vec<u64>, AllocError> {
     let mut out = vec![in heap; 0u64; 36 * usize::from(channels)]?;
     for (place, word) in entries {
-        if let Some(entry) = out.get_mut(*place) {
-            *entry = *word;
-        }
+        put(&mut out, *place, *word);
     }
     Ok(out)
 }
@@ -38,22 +36,15 @@ fn check_switch_ring(rt: &impl Abort, rack: &Rack, dependencies: &[u64]) -> Resu
 fn ring_of_channels(rt: HostRuntime) -> Result<(), Fail> {
     let heap = rt.alloc();
     let rack = triangle(heap)?;
-    let mut tables = Tables::zero(heap, &rack)?;
-    let mut work = Work::marked(heap, &rack)?;
+    let mut bench = Bench::zero(heap, &rack)?;
     assert_eq!(rt;
-        check_stored(heap, &rack, &CLOCKWISE, &tables, 1, &mut work),
+        bench.check_stored(&CLOCKWISE, 1),
         Err(CheckFault::Ring { length: 3 })
     );
-    check_switch_ring(&rt, &rack, &work.dependencies)?;
-    assert_eq!(rt;
-        build_stored(heap, &rack, &CLOCKWISE, 2, &mut tables),
-        Ok(())
-    );
-    assert_eq!(rt;
-        check_stored(heap, &rack, &CLOCKWISE, &tables, 2, &mut work),
-        Ok(3)
-    );
-    check_switch_ring(&rt, &rack, &work.dependencies)
+    check_switch_ring(&rt, &rack, &bench.work.dependencies)?;
+    assert_eq!(rt; bench.build_stored(&CLOCKWISE, 2), Ok(()));
+    assert_eq!(rt; bench.check_stored(&CLOCKWISE, 2), Ok(3));
+    check_switch_ring(&rt, &rack, &bench.work.dependencies)
 }
 
 // Up the line and back down it no channel comes again.
@@ -100,9 +91,7 @@ fn ring_through_a_host(rt: HostRuntime) -> Result<(), Fail> {
         check_channels(&rack, &dependencies, &mut ranks, &mut ring),
         Err(CheckFault::Ring { length: 2 })
     );
-    let told = (at(&ring, 0), at(&ring, 1));
-    assert!(rt; told == (0, 1) || told == (1, 0));
-    assert_eq!(rt; at(&ring, 2), 9);
+    assert!(rt; ring.starts_with(&[0, 1, 9]) || ring.starts_with(&[1, 0, 9]));
     check_table(&rt, &ranks, 12, &[])
 }
 

@@ -1,9 +1,9 @@
 // The triangle that forwards clockwise: its three switches make a ring unless lanes part it.
-use crate::plans::{build_stored, check_stored, check_two_hop};
-use crate::racks::{CLOCKWISE, triangle};
-use crate::tables::{Tables, Work, check_ring, check_table};
+use crate::plans::Bench;
+use crate::tables::{check_ring, check_table};
 use builder::fault::BuildFault;
 use checking::fault::CheckFault;
+use example_racks::{CLOCKWISE, triangle};
 use routing::fault::WalkFault;
 use routing::pair::Pair;
 use routing::stored::Stored;
@@ -27,17 +27,16 @@ pub const PARTED: [(usize, u64); 9] = [
 fn one_lane(rt: HostRuntime) -> Result<(), Fail> {
     let heap = rt.alloc();
     let rack = triangle(heap)?;
-    let tables = Tables::zero(heap, &rack)?;
-    let mut work = Work::marked(heap, &rack)?;
+    let mut bench = Bench::zero(heap, &rack)?;
     assert_eq!(rt;
-        check_stored(heap, &rack, &CLOCKWISE, &tables, 1, &mut work),
+        bench.check_stored(&CLOCKWISE, 1),
         Err(CheckFault::Ring { length: 3 })
     );
-    check_ring(&rt, &work.ring, [48, 64, 80])?;
-    check_table(&rt, &work.ranks, 96, &[])?;
+    check_ring(&rt, &bench.work.ring, [48, 64, 80])?;
+    check_table(&rt, &bench.work.ranks, 96, &[])?;
     check_table(
         &rt,
-        &work.dependencies,
+        &bench.work.dependencies,
         432,
         &[
             (1, 1),
@@ -58,23 +57,21 @@ fn one_lane(rt: HostRuntime) -> Result<(), Fail> {
 fn built_with_two_lanes(rt: HostRuntime) -> Result<(), Fail> {
     let heap = rt.alloc();
     let rack = triangle(heap)?;
-    let mut tables = Tables::marked(heap, &rack)?;
-    assert_eq!(rt;
-        build_stored(heap, &rack, &CLOCKWISE, 2, &mut tables),
-        Ok(())
-    );
-    check_table(&rt, &tables.lanes, 6912, &[(3488, 1), (4640, 1), (5776, 1)])?;
-    check_table(&rt, &tables.levels, 36, &[])?;
-    let mut work = Work::marked(heap, &rack)?;
-    assert_eq!(rt;
-        check_stored(heap, &rack, &CLOCKWISE, &tables, 2, &mut work),
-        Ok(3)
-    );
-    check_table(&rt, &work.dependencies, 432, &PARTED)?;
+    let mut bench = Bench::marked(heap, &rack)?;
+    assert_eq!(rt; bench.build_stored(&CLOCKWISE, 2), Ok(()));
+    check_table(
+        &rt,
+        &bench.tables.lanes,
+        6912,
+        &[(3488, 1), (4640, 1), (5776, 1)],
+    )?;
+    check_table(&rt, &bench.tables.levels, 36, &[])?;
+    assert_eq!(rt; bench.check_stored(&CLOCKWISE, 2), Ok(3));
+    check_table(&rt, &bench.work.dependencies, 432, &PARTED)?;
     // 6, 8 and 10 on lane 0 are second, on lane 1 third, and the channels to the hosts last
     check_table(
         &rt,
-        &work.ranks,
+        &bench.work.ranks,
         96,
         &[
             (8, 3),
@@ -88,7 +85,7 @@ fn built_with_two_lanes(rt: HostRuntime) -> Result<(), Fail> {
             (81, 2),
         ],
     )?;
-    check_table(&rt, &work.ring, 0, &[])
+    check_table(&rt, &bench.work.ring, 0, &[])
 }
 
 // With one lane there is none for the path from 0 to 2, and both tables are cleared.
@@ -96,15 +93,15 @@ fn built_with_two_lanes(rt: HostRuntime) -> Result<(), Fail> {
 fn built_with_one_lane(rt: HostRuntime) -> Result<(), Fail> {
     let heap = rt.alloc();
     let rack = triangle(heap)?;
-    let mut tables = Tables::marked(heap, &rack)?;
+    let mut bench = Bench::marked(heap, &rack)?;
     assert_eq!(rt;
-        build_stored(heap, &rack, &CLOCKWISE, 1, &mut tables),
+        bench.build_stored(&CLOCKWISE, 1),
         Err(BuildFault::Lane {
             pair: Pair::of(0, 2)
         })
     );
-    check_table(&rt, &tables.lanes, 6912, &[])?;
-    check_table(&rt, &tables.levels, 36, &[])
+    check_table(&rt, &bench.tables.lanes, 6912, &[])?;
+    check_table(&rt, &bench.tables.levels, 36, &[])
 }
 
 // The map that raises the lane once needs two lanes, and they suffice.
@@ -116,23 +113,19 @@ fn raised_once(rt: HostRuntime) -> Result<(), Fail> {
         rack: &rack,
         forwarding: &CLOCKWISE,
     };
-    let levels = [0u8; 36];
-    let mut work = Work::marked(heap, &rack)?;
+    let mut bench = Bench::zero(heap, &rack)?;
     assert_eq!(rt;
-        check_two_hop(heap, &rack, &source, &levels, 1, &mut work),
+        bench.check_two_hop(&source, 1),
         Err(CheckFault::Walk(WalkFault::Lane {
             pair: Pair::of(0, 1),
             hop: 2,
         }))
     );
-    work.check_untouched(&rt)?;
-    assert_eq!(rt;
-        check_two_hop(heap, &rack, &source, &levels, 2, &mut work),
-        Ok(3)
-    );
+    bench.work.check_untouched(&rt)?;
+    assert_eq!(rt; bench.check_two_hop(&source, 2), Ok(3));
     check_table(
         &rt,
-        &work.dependencies,
+        &bench.work.dependencies,
         432,
         &[
             (1, 1),
@@ -146,5 +139,5 @@ fn raised_once(rt: HostRuntime) -> Result<(), Fail> {
             (361, 2),
         ],
     )?;
-    check_table(&rt, &work.ring, 0, &[])
+    check_table(&rt, &bench.work.ring, 0, &[])
 }

@@ -1,10 +1,10 @@
 // Lane tables that no builder made, on the triangle that forwards clockwise.
 // The row of a turn begins at 16 for channels 0 and 6, 1184 for 2 and 8, 2336 for 4 and 10, 3488 for 6 and 8, 4640 for 8 and 10, 5776 for 10 and 6.
 use crate::clockwise::PARTED;
-use crate::plans::{build_stored, check_stored};
-use crate::racks::{CLOCKWISE, triangle};
-use crate::tables::{Tables, Work, check_ring, check_table};
+use crate::plans::Bench;
+use crate::tables::{check_ring, check_table, put};
 use checking::fault::CheckFault;
+use example_racks::{CLOCKWISE, triangle};
 use routing::fault::WalkFault;
 use routing::pair::Pair;
 use std::test::*;
@@ -14,27 +14,26 @@ use std::test::*;
 fn ring_through_a_fall(rt: HostRuntime) -> Result<(), Fail> {
     let heap = rt.alloc();
     let rack = triangle(heap)?;
-    let mut tables = Tables::zero(heap, &rack)?;
-    tables.set_lane(1184, 2);
-    tables.set_lane(3488, 2);
-    let mut work = Work::marked(heap, &rack)?;
+    let mut bench = Bench::zero(heap, &rack)?;
+    put(&mut bench.tables.lanes, 1184, 2);
+    put(&mut bench.tables.lanes, 3488, 2);
     assert_eq!(rt;
-        check_stored(heap, &rack, &CLOCKWISE, &tables, 2, &mut work),
+        bench.check_stored(&CLOCKWISE, 2),
         Err(CheckFault::Walk(WalkFault::Lane {
             pair: Pair::of(0, 2),
             hop: 2,
         }))
     );
-    work.check_untouched(&rt)?;
+    bench.work.check_untouched(&rt)?;
     assert_eq!(rt;
-        check_stored(heap, &rack, &CLOCKWISE, &tables, 3, &mut work),
+        bench.check_stored(&CLOCKWISE, 3),
         Err(CheckFault::Ring { length: 3 })
     );
-    check_ring(&rt, &work.ring, [48, 66, 80])?;
-    check_table(&rt, &work.ranks, 96, &[])?;
+    check_ring(&rt, &bench.work.ring, [48, 66, 80])?;
+    check_table(&rt, &bench.work.ranks, 96, &[])?;
     check_table(
         &rt,
-        &work.dependencies,
+        &bench.work.dependencies,
         432,
         &[
             (1, 1),
@@ -55,20 +54,16 @@ fn ring_through_a_fall(rt: HostRuntime) -> Result<(), Fail> {
 fn fall_beside_the_ring(rt: HostRuntime) -> Result<(), Fail> {
     let heap = rt.alloc();
     let rack = triangle(heap)?;
-    let mut tables = Tables::zero(heap, &rack)?;
-    tables.set_lane(3488, 2);
-    let mut work = Work::marked(heap, &rack)?;
-    assert_eq!(rt;
-        check_stored(heap, &rack, &CLOCKWISE, &tables, 3, &mut work),
-        Ok(5)
-    );
+    let mut bench = Bench::zero(heap, &rack)?;
+    put(&mut bench.tables.lanes, 3488, 2);
+    assert_eq!(rt; bench.check_stored(&CLOCKWISE, 3), Ok(5));
     check_table(
         &rt,
-        &work.ranks,
+        &bench.work.ranks,
         96,
         &[(8, 3), (24, 4), (40, 5), (48, 3), (64, 1), (66, 4), (80, 2)],
     )?;
-    check_table(&rt, &work.ring, 0, &[])
+    check_table(&rt, &bench.work.ring, 0, &[])
 }
 
 // Lanes that rise from switch to switch are accepted, and so are lanes that fall, as long as there is no ring.
@@ -77,19 +72,15 @@ fn rising_and_falling(rt: HostRuntime) -> Result<(), Fail> {
     let heap = rt.alloc();
     let rack = triangle(heap)?;
     for (first, second) in [(1u8, 2u8), (2, 0), (0, 2)] {
-        let mut tables = Tables::zero(heap, &rack)?;
+        let mut bench = Bench::zero(heap, &rack)?;
         for place in [16, 1184, 2336] {
-            tables.set_lane(place, first);
+            put(&mut bench.tables.lanes, place, first);
         }
         for place in [3488, 4640, 5776] {
-            tables.set_lane(place, second);
+            put(&mut bench.tables.lanes, place, second);
         }
-        let mut work = Work::marked(heap, &rack)?;
-        assert_eq!(rt;
-            check_stored(heap, &rack, &CLOCKWISE, &tables, 3, &mut work),
-            Ok(3)
-        );
-        check_table(&rt, &work.ring, 0, &[])?;
+        assert_eq!(rt; bench.check_stored(&CLOCKWISE, 3), Ok(3));
+        check_table(&rt, &bench.work.ring, 0, &[])?;
     }
     Ok(())
 }
@@ -99,23 +90,16 @@ fn rising_and_falling(rt: HostRuntime) -> Result<(), Fail> {
 fn level_of_no_pair(rt: HostRuntime) -> Result<(), Fail> {
     let heap = rt.alloc();
     let rack = triangle(heap)?;
-    let mut tables = Tables::zero(heap, &rack)?;
-    assert_eq!(rt;
-        build_stored(heap, &rack, &CLOCKWISE, 2, &mut tables),
-        Ok(())
-    );
-    for row in tables.lanes.chunks_exact_mut(16) {
+    let mut bench = Bench::zero(heap, &rack)?;
+    assert_eq!(rt; bench.build_stored(&CLOCKWISE, 2), Ok(()));
+    for row in bench.tables.lanes.chunks_exact_mut(16) {
         row[5] = 3;
     }
-    let mut work = Work::marked(heap, &rack)?;
+    assert_eq!(rt; bench.check_stored(&CLOCKWISE, 2), Ok(3));
+    check_table(&rt, &bench.work.dependencies, 432, &PARTED)?;
+    put(&mut bench.tables.levels, 2, 5);
     assert_eq!(rt;
-        check_stored(heap, &rack, &CLOCKWISE, &tables, 2, &mut work),
-        Ok(3)
-    );
-    check_table(&rt, &work.dependencies, 432, &PARTED)?;
-    tables.set_level(2, 5);
-    assert_eq!(rt;
-        check_stored(heap, &rack, &CLOCKWISE, &tables, 2, &mut work),
+        bench.check_stored(&CLOCKWISE, 2),
         Err(CheckFault::Walk(WalkFault::Lane {
             pair: Pair::of(0, 2),
             hop: 1,

@@ -1,6 +1,6 @@
 // A rack that sixteen levels are too few for: nine switches, each with a host, that send what is for a host through all switches, in an order of its own.
-use crate::plans::build_stored;
-use crate::tables::{Tables, check_table};
+use crate::plans::Bench;
+use crate::tables::{check_table, put};
 use builder::fault::BuildFault;
 use rack::cable::Cable;
 use rack::fault::RackFault;
@@ -53,9 +53,7 @@ fn switch(host: u8) -> u16 {
 // Has the switch of `at` send what is for a host to the next node.
 fn forward(rack: &Rack, forwarding: &mut [u16], at: u8, host: u8, next: u16) {
     let place = 18 * usize::from(switch(at)) + usize::from(host);
-    if let Some(told) = forwarding.get_mut(place) {
-        *told = entry(rack, switch(at), next);
-    }
+    put(forwarding, place, entry(rack, switch(at), next));
 }
 
 // Has each switch send what is for a host to the next in the order, and the last to the host.
@@ -107,13 +105,10 @@ fn none_left(rt: HostRuntime) -> Result<(), Fail> {
         ),
     ];
     for (lanes, fault) in rows {
-        let mut tables = Tables::marked(heap, &rack)?;
-        assert_eq!(rt;
-            build_stored(heap, &rack, &forwarding, lanes, &mut tables),
-            Err(fault)
-        );
-        check_table(&rt, &tables.lanes, 31104, &[])?;
-        check_table(&rt, &tables.levels, 324, &[])?;
+        let mut bench = Bench::marked(heap, &rack)?;
+        assert_eq!(rt; bench.build_stored(&forwarding, lanes), Err(fault));
+        check_table(&rt, &bench.tables.lanes, 31104, &[])?;
+        check_table(&rt, &bench.tables.levels, 324, &[])?;
     }
     Ok(())
 }

@@ -1,8 +1,9 @@
 // The line of four switches, by shortest ways.
-use crate::plans::{build_rows, check_rows, check_two_hop};
-use crate::racks::{line, turned_line};
-use crate::tables::{Tables, Work, check_table};
+use crate::plans::Bench;
+use crate::racks::turned_line;
+use crate::tables::check_table;
 use builder::fault::BuildFault;
+use example_racks::line;
 use rack::rack::Rack;
 use routing::distances::fill_distances;
 use routing::downhill::Downhill;
@@ -27,11 +28,11 @@ fn second_level(rt: HostRuntime) -> Result<(), Fail> {
         rack: &rack,
         distances: &distances,
     };
-    let mut tables = Tables::marked(heap, &rack)?;
-    assert_eq!(rt; build_rows(heap, &rack, &source, 3, &mut tables), Ok(()));
+    let mut bench = Bench::marked(heap, &rack)?;
+    assert_eq!(rt; bench.build_rows(&source, 3), Ok(()));
     check_table(
         &rt,
-        &tables.lanes,
+        &bench.tables.lanes,
         8064,
         &[
             (4640, 1),
@@ -43,13 +44,9 @@ fn second_level(rt: HostRuntime) -> Result<(), Fail> {
             (7505, 1),
         ],
     )?;
-    check_table(&rt, &tables.levels, 64, &[(11, 1), (24, 1)])?;
-    let mut work = Work::marked(heap, &rack)?;
-    assert_eq!(rt;
-        check_rows(heap, &rack, &source, &tables, 3, &mut work),
-        Ok(4)
-    );
-    check_table(&rt, &work.ring, 0, &[])
+    check_table(&rt, &bench.tables.levels, 64, &[(11, 1), (24, 1)])?;
+    assert_eq!(rt; bench.check_rows(&source, 3), Ok(4));
+    check_table(&rt, &bench.work.ring, 0, &[])
 }
 
 // With the ends of the cables the other way round the levels are the same, and the lanes stand in the rows of the ways back.
@@ -62,11 +59,11 @@ fn ends_turned(rt: HostRuntime) -> Result<(), Fail> {
         rack: &rack,
         distances: &distances,
     };
-    let mut tables = Tables::marked(heap, &rack)?;
-    assert_eq!(rt; build_rows(heap, &rack, &source, 3, &mut tables), Ok(()));
+    let mut bench = Bench::marked(heap, &rack)?;
+    assert_eq!(rt; bench.build_rows(&source, 3), Ok(()));
     check_table(
         &rt,
-        &tables.lanes,
+        &bench.tables.lanes,
         8064,
         &[
             (5216, 1),
@@ -78,7 +75,7 @@ fn ends_turned(rt: HostRuntime) -> Result<(), Fail> {
             (6929, 1),
         ],
     )?;
-    check_table(&rt, &tables.levels, 64, &[(11, 1), (24, 1)])
+    check_table(&rt, &bench.tables.levels, 64, &[(11, 1), (24, 1)])
 }
 
 // The path from end to end has five channels, one more than two lanes take.
@@ -91,15 +88,15 @@ fn too_few_lanes(rt: HostRuntime) -> Result<(), Fail> {
         rack: &rack,
         distances: &distances,
     };
-    let mut tables = Tables::marked(heap, &rack)?;
+    let mut bench = Bench::marked(heap, &rack)?;
     assert_eq!(rt;
-        build_rows(heap, &rack, &source, 2, &mut tables),
+        bench.build_rows(&source, 2),
         Err(BuildFault::Lane {
             pair: Pair::of(0, 3)
         })
     );
-    check_table(&rt, &tables.lanes, 8064, &[])?;
-    check_table(&rt, &tables.levels, 64, &[])
+    check_table(&rt, &bench.tables.lanes, 8064, &[])?;
+    check_table(&rt, &bench.tables.levels, 64, &[])
 }
 
 // The dependency words where the lane is raised once, behind the first switch.
@@ -132,12 +129,8 @@ fn raised_once(rt: HostRuntime) -> Result<(), Fail> {
         rack: &rack,
         distances: &distances,
     };
-    let levels = [0u8; 64];
-    let mut work = Work::marked(heap, &rack)?;
-    assert_eq!(rt;
-        check_two_hop(heap, &rack, &source, &levels, 2, &mut work),
-        Ok(4)
-    );
-    check_table(&rt, &work.dependencies, 504, &RAISED_ONCE)?;
-    check_table(&rt, &work.ring, 0, &[])
+    let mut bench = Bench::zero(heap, &rack)?;
+    assert_eq!(rt; bench.check_two_hop(&source, 2), Ok(4));
+    check_table(&rt, &bench.work.dependencies, 504, &RAISED_ONCE)?;
+    check_table(&rt, &bench.work.ring, 0, &[])
 }

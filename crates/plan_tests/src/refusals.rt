@@ -1,9 +1,9 @@
 // What the check and the builder refuse, on the triangle that forwards clockwise, and what the tables hold then.
-use crate::plans::{build_stored, check_stored};
-use crate::racks::{CLOCKWISE, triangle};
-use crate::tables::{MARK, Tables, Work, check_table};
+use crate::plans::Bench;
+use crate::tables::{MARK, Tables, Work, check_table, put};
 use builder::fault::BuildFault;
 use checking::fault::CheckFault;
+use example_racks::{CLOCKWISE, triangle};
 use rack::rack::Rack;
 use routing::fault::WalkFault;
 use routing::pair::Pair;
@@ -14,9 +14,7 @@ use std::test::*;
 // The clockwise forwarding table with another entry at a place.
 fn changed(place: usize, entry: u16) -> [u16; 36] {
     let mut out = CLOCKWISE;
-    if let Some(changed) = out.get_mut(place) {
-        *changed = entry;
-    }
+    put(&mut out, place, entry);
     out
 }
 
@@ -28,20 +26,19 @@ fn check_walk(
     forwarding: &[u16],
     fault: WalkFault,
 ) -> Result<(), Fail> {
-    let zero = Tables::zero(heap, rack)?;
-    let mut work = Work::marked(heap, rack)?;
+    let mut bench = Bench::zero(heap, rack)?;
     assert_eq!(rt;
-        check_stored(heap, rack, forwarding, &zero, 1, &mut work),
+        bench.check_stored(forwarding, 1),
         Err(CheckFault::Walk(fault))
     );
-    work.check_untouched(rt)?;
-    let mut tables = Tables::marked(heap, rack)?;
+    bench.work.check_untouched(rt)?;
+    let mut bench = Bench::marked(heap, rack)?;
     assert_eq!(rt;
-        build_stored(heap, rack, forwarding, 2, &mut tables),
+        bench.build_stored(forwarding, 2),
         Err(BuildFault::Walk(fault))
     );
-    check_table(rt, &tables.lanes, 6912, &[])?;
-    check_table(rt, &tables.levels, 36, &[])
+    check_table(rt, &bench.tables.lanes, 6912, &[])?;
+    check_table(rt, &bench.tables.levels, 36, &[])
 }
 
 // One entry for host 2 is wrong, so that the packets of 0 do not arrive there.
@@ -74,19 +71,23 @@ fn lane_counts(rt: HostRuntime) -> Result<(), Fail> {
     let heap = rt.alloc();
     let rack = triangle(heap)?;
     for (count, places) in [(0u8, 36usize), (9, 36), (255, 36), (0, 35), (9, 35)] {
-        let mut tables = Tables::new(heap, 6912, places, MARK)?;
-        let mut work = Work::new(heap, 432, 96, 96)?;
+        let mut bench = Bench {
+            heap,
+            rack: &rack,
+            tables: Tables::new(heap, 6912, places, MARK)?,
+            work: Work::new(heap, 432, 96, 96)?,
+        };
         assert_eq!(rt;
-            check_stored(heap, &rack, &CLOCKWISE, &tables, count, &mut work),
+            bench.check_stored(&CLOCKWISE, count),
             Err(CheckFault::Lanes)
         );
-        work.check_untouched(&rt)?;
+        bench.work.check_untouched(&rt)?;
         assert_eq!(rt;
-            build_stored(heap, &rack, &CLOCKWISE, count, &mut tables),
+            bench.build_stored(&CLOCKWISE, count),
             Err(BuildFault::Lanes)
         );
-        check_table(&rt, &tables.lanes, 0, &[])?;
-        check_table(&rt, &tables.levels, 0, &[])?;
+        check_table(&rt, &bench.tables.lanes, 0, &[])?;
+        check_table(&rt, &bench.tables.levels, 0, &[])?;
     }
     Ok(())
 }
@@ -103,13 +104,14 @@ fn short_for_the_check(rt: HostRuntime) -> Result<(), Fail> {
         (36, 432, 96, 95),
     ];
     for (levels, dependencies, ranks, ring) in rows {
-        let tables = Tables::new(heap, 6912, levels, 0)?;
-        let mut work = Work::new(heap, dependencies, ranks, ring)?;
-        assert_eq!(rt;
-            check_stored(heap, &rack, &CLOCKWISE, &tables, 1, &mut work),
-            Err(CheckFault::Tables)
-        );
-        work.check_untouched(&rt)?;
+        let mut bench = Bench {
+            heap,
+            rack: &rack,
+            tables: Tables::new(heap, 6912, levels, 0)?,
+            work: Work::new(heap, dependencies, ranks, ring)?,
+        };
+        assert_eq!(rt; bench.check_stored(&CLOCKWISE, 1), Err(CheckFault::Tables));
+        bench.work.check_untouched(&rt)?;
     }
     Ok(())
 }
@@ -120,13 +122,11 @@ fn short_for_the_builder(rt: HostRuntime) -> Result<(), Fail> {
     let heap = rt.alloc();
     let rack = triangle(heap)?;
     for (lanes, levels) in [(6911, 36), (6912, 35)] {
-        let mut tables = Tables::new(heap, lanes, levels, MARK)?;
-        assert_eq!(rt;
-            build_stored(heap, &rack, &CLOCKWISE, 2, &mut tables),
-            Err(BuildFault::Tables)
-        );
-        check_table(&rt, &tables.lanes, 0, &[])?;
-        check_table(&rt, &tables.levels, 0, &[])?;
+        let mut bench = Bench::marked(heap, &rack)?;
+        bench.tables = Tables::new(heap, lanes, levels, MARK)?;
+        assert_eq!(rt; bench.build_stored(&CLOCKWISE, 2), Err(BuildFault::Tables));
+        check_table(&rt, &bench.tables.lanes, 0, &[])?;
+        check_table(&rt, &bench.tables.levels, 0, &[])?;
     }
     Ok(())
 }
@@ -136,26 +136,19 @@ fn short_for_the_builder(rt: HostRuntime) -> Result<(), Fail> {
 fn levels(rt: HostRuntime) -> Result<(), Fail> {
     let heap = rt.alloc();
     let rack = triangle(heap)?;
-    let mut tables = Tables::zero(heap, &rack)?;
-    assert_eq!(rt;
-        build_stored(heap, &rack, &CLOCKWISE, 2, &mut tables),
-        Ok(())
-    );
-    let mut work = Work::marked(heap, &rack)?;
+    let mut bench = Bench::zero(heap, &rack)?;
+    assert_eq!(rt; bench.build_stored(&CLOCKWISE, 2), Ok(()));
     for level in [16, 255] {
-        tables.set_level(6, level);
+        put(&mut bench.tables.levels, 6, level);
         assert_eq!(rt;
-            check_stored(heap, &rack, &CLOCKWISE, &tables, 2, &mut work),
+            bench.check_stored(&CLOCKWISE, 2),
             Err(CheckFault::Level {
                 pair: Pair::of(1, 0)
             })
         );
-        work.check_untouched(&rt)?;
+        bench.work.check_untouched(&rt)?;
     }
-    tables.set_level(6, 15);
-    assert_eq!(rt;
-        check_stored(heap, &rack, &CLOCKWISE, &tables, 2, &mut work),
-        Ok(4)
-    );
+    put(&mut bench.tables.levels, 6, 15);
+    assert_eq!(rt; bench.check_stored(&CLOCKWISE, 2), Ok(4));
     Ok(())
 }

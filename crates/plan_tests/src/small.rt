@@ -1,7 +1,7 @@
 // Racks without pairs: there is nothing to follow, and every rank is 0.
-use crate::plans::{build_stored, check_stored};
+use crate::plans::Bench;
 use crate::racks::{lone, nothing};
-use crate::tables::{Tables, Work, check_table};
+use crate::tables::check_table;
 use rack::rack::Rack;
 use std::alloc::Global;
 use std::process::Abort;
@@ -17,15 +17,14 @@ fn check_pairless(
 ) -> Result<(), Fail> {
     let nodes = usize::from(nodes);
     let channels = usize::from(channels);
-    let mut tables = Tables::marked(heap, rack)?;
-    assert_eq!(rt; build_stored(heap, rack, &[], 1, &mut tables), Ok(()));
-    check_table(rt, &tables.lanes, 576 * channels, &[])?;
-    check_table(rt, &tables.levels, nodes * nodes, &[])?;
-    let mut work = Work::marked(heap, rack)?;
-    assert_eq!(rt; check_stored(heap, rack, &[], &tables, 1, &mut work), Ok(0));
-    check_table(rt, &work.dependencies, 36 * channels, &[])?;
-    check_table(rt, &work.ranks, 8 * channels, &[])?;
-    check_table(rt, &work.ring, 0, &[])
+    let mut bench = Bench::marked(heap, rack)?;
+    assert_eq!(rt; bench.build_stored(&[], 1), Ok(()));
+    check_table(rt, &bench.tables.lanes, 576 * channels, &[])?;
+    check_table(rt, &bench.tables.levels, nodes * nodes, &[])?;
+    assert_eq!(rt; bench.check_stored(&[], 1), Ok(0));
+    check_table(rt, &bench.work.dependencies, 36 * channels, &[])?;
+    check_table(rt, &bench.work.ranks, 8 * channels, &[])?;
+    check_table(rt, &bench.work.ring, 0, &[])
 }
 
 // Two tests, so that each is told by its name.

@@ -1,5 +1,10 @@
 // Tables to lend, with marks, and what they hold afterwards.
+use checking::check::check;
+use checking::fault::CheckFault;
 use rack::rack::Rack;
+use routing::map::LaneMap;
+use routing::plan::Plan;
+use routing::source::ForwardingSource;
 use std::alloc::{AllocError, Global};
 use std::process::Abort;
 use std::test::*;
@@ -39,20 +44,6 @@ impl Tables {
             MARK,
         )
     }
-
-    // Puts a byte at a place of the lane table. It and the next name the table that they change.
-    pub fn set_lane(&mut self, place: usize, lane: u8) {
-        if let Some(entry) = self.lanes.get_mut(place) {
-            *entry = lane;
-        }
-    }
-
-    // Puts a byte at a place of the path table.
-    pub fn set_level(&mut self, place: usize, level: u8) {
-        if let Some(entry) = self.levels.get_mut(place) {
-            *entry = level;
-        }
-    }
 }
 
 // What the check works on.
@@ -84,6 +75,22 @@ impl Work {
         Work::new(heap, 36 * channels + 5, 8 * channels + 3, 8 * channels + 7)
     }
 
+    // Checks a plan; the greatest rank, where it is accepted.
+    pub fn check<S: ForwardingSource, M: LaneMap>(
+        &mut self,
+        heap: Global,
+        plan: &Plan<'_, S, M>,
+    ) -> Result<u16, CheckFault> {
+        let acceptance = check(
+            heap,
+            plan,
+            &mut self.dependencies,
+            &mut self.ranks,
+            &mut self.ring,
+        )?;
+        Ok(acceptance.greatest_rank())
+    }
+
     // Nothing was written.
     pub fn check_untouched(&self, rt: &impl Abort) -> Result<(), Fail> {
         check_table(rt, &self.dependencies, 0, &[])?;
@@ -92,16 +99,19 @@ impl Work {
     }
 }
 
-// The number at a place; 65535 beyond the table.
-pub fn at(table: &[u16], place: usize) -> u16 {
-    table.get(place).copied().unwrap_or(65535)
+// Puts an entry at a place of a table.
+pub fn put<T: Copy>(table: &mut [T], place: usize, entry: T) {
+    if let Some(old) = table.get_mut(place) {
+        *old = entry;
+    }
 }
 
 // The ring table has these points at its first places, from any of them on, and marks behind.
 pub fn check_ring(rt: &impl Abort, ring: &[u16], points: [u16; 3]) -> Result<(), Fail> {
-    let told = [at(ring, 0), at(ring, 1), at(ring, 2)];
     let [a, b, c] = points;
-    assert!(rt; told == [a, b, c] || told == [b, c, a] || told == [c, a, b]);
+    assert!(rt;
+        ring.starts_with(&[a, b, c]) || ring.starts_with(&[b, c, a]) || ring.starts_with(&[c, a, b])
+    );
     assert!(rt; ring.iter().skip(3).all(|point| *point == u16::from(MARK)));
     Ok(())
 }

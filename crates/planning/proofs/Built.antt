@@ -8,7 +8,8 @@ use Rattle.routing.specs.Sources.{enters_switch}
 use Rattle.routing.specs.Turns.{turns, stored_lane}
 use Rattle.routing.specs.Paths.{Routing, routing, Hop, hop, PairOf, hop_at, OnPath}
 use Rattle.routing.proofs.Tests.{enters_no}
-use Rattle.routing.proofs.Hops.{some_same, came, hop_more, hop_last, from_first}
+use Rattle.std.proofs.lemmas.Option.{same_Some}
+use Rattle.routing.proofs.Hops.{came, hop_more, hop_last, from_first}
 use Rattle.builder.specs.Method.{alone, PathOf, tables}
 use Rattle.builder.specs.Laws.{Rises, EndsKeep0}
 use Rattle.builder.specs.Outcomes.{InRange}
@@ -29,7 +30,7 @@ module _ (r : Rack) (route : ℕ → ℕ → Option ℕ) (lanes levels : List �
 
   -- lanes do not lead a path elsewhere
   to_full : (c v s i : ℕ) (h : Hop) → hop_at bare c v 0 i ≡ Some h → (k : Hop) × (hop_at full c v s i ≡ Some k) × (k.channel ≡ h.channel)
-  to_full c v s zero h e = (hop c 0, refl, ap (λ (x : Hop). x.channel) (some_same _ _ e))
+  to_full c v s zero h e = (hop c 0, refl, ap (λ (x : Hop). x.channel) (same_Some _ _ e))
   to_full c v s (suc i) h e =
       let b = came bare v 0 (hop_at bare c v 0 i) h e in
       let t = b.3 in
@@ -42,7 +43,7 @@ module _ (r : Rack) (route : ℕ → ℕ → Option ℕ) (lanes levels : List �
       )
 
   to_bare : (c v s i : ℕ) (h : Hop) → hop_at full c v s i ≡ Some h → hop_at bare c v 0 i ≡ Some (hop h.channel 0)
-  to_bare c v s zero h e = ap (λ m. Some (hop m 0)) (ap (λ (x : Hop). x.channel) (some_same _ _ e))
+  to_bare c v s zero h e = ap (λ m. Some (hop m 0)) (ap (λ (x : Hop). x.channel) (same_Some _ _ e))
   to_bare c v s (suc i) h e =
       let b = came full v s (hop_at full c v s i) h e in
       let t = b.3 in
@@ -85,12 +86,12 @@ module _ (r : Rack) (route : ℕ → ℕ → Option ℕ) (lanes levels : List �
 
     -- the channel of a hop is that of the path
     channel_at : (i : ℕ) (h : Hop) → OnPath full u v s i h → h.channel ≡ get_or path i 0
-    channel_at i h on = ap (λ (x : Hop). x.channel) (some_same _ _ (sym (to_bare first v s i h (at_full i h on)) ∙ at_bare i _ (of.hops i (within i h on))))
+    channel_at i h on = ap (λ (x : Hop). x.channel) (same_Some _ _ (sym (to_bare first v s i h (at_full i h on)) ∙ at_bare i _ (of.hops i (within i h on))))
 
     -- the last channel enters the receiver
     last_host : Host r (head r (get_or path (length path - 1) 0))
     last_host =
-        let e : of.ends.0.channel ≡ get_or path (length path - 1) 0 = ap (λ (x : Hop). x.channel) (some_same _ _ (sym (at_bare (length path - 1) of.ends.0 of.ends.1) ∙ at_bare (length path - 1) _ (of.hops (length path - 1) (let z = of.some in omega arith)))) in
+        let e : of.ends.0.channel ≡ get_or path (length path - 1) 0 = ap (λ (x : Hop). x.channel) (same_Some _ _ (sym (at_bare (length path - 1) of.ends.0 of.ends.1) ∙ at_bare (length path - 1) _ (of.hops (length path - 1) (let z = of.some in omega arith)))) in
         subst (Host r) (sym of.ends.3 ∙ ap (head r) e) pair.1
 
     -- the lane of a hop that is not the first
@@ -106,7 +107,7 @@ module _ (r : Rack) (route : ℕ → ℕ → Option ℕ) (lanes levels : List �
         )
 
     first_is : get_or path 0 0 ≡ first
-    first_is = sym (ap (λ (x : Hop). x.channel) (some_same _ _ (at_bare 0 _ (of.hops 0 of.some))))
+    first_is = sym (ap (λ (x : Hop). x.channel) (same_Some _ _ (at_bare 0 _ (of.hops 0 of.some))))
 
     first_host : Host r (tail r (get_or path 0 0))
     first_host = subst (λ m. Host r (tail r m)) (sym first_is) (subst (Host r) (sym leaving.1) pair.0)
@@ -139,7 +140,7 @@ module _ (r : Rack) (route : ℕ → ℕ → Option ℕ) (lanes levels : List �
         }
       where
         low_at : (i : ℕ) (h : Hop) → OnPath full u v s i h → length path ≤ count + 2 → h.lane < count
-        low_at zero h on short = let e : 0 ≡ h.lane = ap (λ (x : Hop). x.lane) (some_same _ _ (at_full 0 h on)) in omega (arith, range)
+        low_at zero h on short = let e : 0 ≡ h.lane = ap (λ (x : Hop). x.lane) (same_Some _ _ (at_full 0 h on)) in omega (arith, range)
         low_at (suc i) h on short = ⊎_elim (λ (x : (h.lane ≡ i) × (i + 2 < length path)). omega (arith, x.0, x.1)) (λ (x : (h.lane ≡ 0) × ((i ≡ 0) ⊎ (i + 2 ≡ length path))). omega (arith, x.0, range)) (lane_is i h on)
 
     pub built_rises : (i : ℕ) (h o : Hop) → OnPath full u v s i h → OnPath full u v s (suc i) o → Switch r (tail r h.channel) → Switch r (head r o.channel) → h.lane < o.lane

@@ -4,7 +4,7 @@ use Rattle.std.proofs.lemmas.List.{get_or-take, length-take-le}
 use Rattle.std.proofs.lemmas.Bool.{cases_lt, cases_eq}
 use Rattle.rack.specs.declared.cable.Cable.{Cable}
 use Rattle.rack.specs.declared.cable.End.{End}
-use Rattle.rack.specs.Network.{none, channels, tail_end, head_end, EndsAt, FreeEnd, Apart}
+use Rattle.rack.specs.Network.{none, channels, tail_end, head_end, EndsAt, FreeEnd, Apart, Leaves}
 
 -- what holds of the two ends of each cable, either way round, holds of the two ends of each channel
 pub both_ways : (P : End → End → Type 0) (cs : List Cable) (c : ℕ) → P (get_or cs (c / 2) none).first (get_or cs (c / 2) none).second → P (get_or cs (c / 2) none).second (get_or cs (c / 2) none).first → P (tail_end cs c) (head_end cs c)
@@ -30,6 +30,16 @@ tail_ends cs c = both_ways (λ t _. EndsAt (get_or cs (c / 2) none) t) cs c (inl
 pub ends_tail : (cs : List Cable) (k : ℕ) (e : End) → EndsAt (get_or cs k none) e → (c : ℕ) × (c / 2 ≡ k) × (tail_end cs c ≡ e)
 ends_tail cs k e (inl is) = (2 * k, omega arith, tail_even cs k ∙ is)
 ends_tail cs k e (inr is) = (2 * k + 1, omega arith, tail_odd cs k ∙ is)
+
+-- so a channel leaves by each end of a cable, and none where no cable ends
+pub leaves_first : (cs : List Cable) (e : End) (k : ℕ) → k < length cs → (get_or cs k none).first ≡ e → Leaves cs e (2 * k)
+leaves_first cs e k within is = (omega arith, tail_even cs k ∙ is)
+
+pub leaves_second : (cs : List Cable) (e : End) (k : ℕ) → k < length cs → (get_or cs k none).second ≡ e → Leaves cs e (2 * k + 1)
+leaves_second cs e k within is = (omega arith, tail_odd cs k ∙ is)
+
+pub none_leaves : (cs : List Cable) (e : End) → FreeEnd cs e → (c : ℕ) → Leaves cs e c → ⊥
+none_leaves cs e free c h = free (c / 2) (omega (arith, h.0)) (subst (EndsAt (get_or cs (c / 2) none)) h.1 (tail_ends cs c))
 
 -- the first k cables end at ports of their own
 abbrev pub ApartBelow : List Cable → ℕ → Type 0

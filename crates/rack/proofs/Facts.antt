@@ -155,17 +155,11 @@ ways_back r c h =
     )
 
 module _ (r : Rack) where
-  pub keeps : KeepsRules (nodes_of r) (cables_of r)
-  keeps = (r.few, r.kinds, r.joined, r.apart, r.cabled)
-
-  pub few_nodes : node_count r ≤ 128
-  few_nodes = r.few.0
-
   pub few_channels : channel_count r ≤ 512
-  few_channels = omega (arith, r.few.1)
+  few_channels = omega (arith, r.rules.0.1)
 
   ends : (c : ℕ) → c < channel_count r → EndsJoin (nodes_of r) (tail_end (cables_of r) c) (head_end (cables_of r) c)
-  ends c h = joined (nodes_of r) (cables_of r) r.joined c h
+  ends c h = joined (nodes_of r) (cables_of r) r.rules.2 c h
 
   -- a channel leaves a node and enters another, by ports 1 to 36
   pub tail_below : (c : ℕ) → c < channel_count r → tail r c < node_count r
@@ -180,12 +174,9 @@ module _ (r : Rack) where
   pub tail_port_within : (c : ℕ) → c < channel_count r → (1 ≤ tail_port r c) × (tail_port r c ≤ 36)
   tail_port_within c h = port_within (nodes_of r) (tail_end (cables_of r) c) (ends c h).0
 
-  pub head_port_within : (c : ℕ) → c < channel_count r → (1 ≤ head_port r c) × (head_port r c ≤ 36)
-  head_port_within c h = port_within (nodes_of r) (head_end (cables_of r) c) (ends c h).1
-
   -- a node is a host or a switch and not both, and what is either is a node
   pub host_or_switch : (v : ℕ) → v < node_count r → Host r v ⊎ Switch r v
-  host_or_switch v h = kind_cases (nodes_of r) r.kinds v h
+  host_or_switch v h = kind_cases (nodes_of r) r.rules.1 v h
 
   pub host_no_switch : (v : ℕ) → Host r v → Switch r v → ⊥
   host_no_switch v host switch = omega (arith, host, switch)
@@ -196,27 +187,21 @@ module _ (r : Rack) where
   pub switch_below : (v : ℕ) → Switch r v → v < node_count r
   switch_below v switch = in_table (nodes_of r) v 2 switch (omega arith)
 
-  pub no_node : (v : ℕ) → node_count r ≤ v → (Host r v → ⊥) × (Switch r v → ⊥)
-  no_node v h = (λ host. omega (arith, host_below v host), λ switch. omega (arith, switch_below v switch))
-
   -- of the two ends of a channel one at least is a switch
   pub from_host : (c : ℕ) → c < channel_count r → Host r (tail r c) → Switch r (head r c)
-  from_host c h host = not_host (nodes_of r) r.kinds _ (ends c h).1 (λ other. (ends c h).3 host other)
-
-  pub to_host : (c : ℕ) → c < channel_count r → Host r (head r c) → Switch r (tail r c)
-  to_host c h host = not_host (nodes_of r) r.kinds _ (ends c h).0 (λ other. (ends c h).3 other host)
+  from_host c h host = not_host (nodes_of r) r.rules.1 _ (ends c h).1 (λ other. (ends c h).3 host other)
 
   -- by a port of a node one channel leaves at most
   pub same_port : (v p b c : ℕ) → LeavingBy r v p b → LeavingBy r v p c → b ≡ c
-  same_port v p b c h k = r.apart b c (h.0.0, k.0.0, same_end _ _ (h.0.1 ∙ sym k.0.1) (h.1 ∙ sym k.1))
+  same_port v p b c h k = r.rules.3 b c (h.0.0, k.0.0, same_end _ _ (h.0.1 ∙ sym k.0.1) (h.1 ∙ sym k.1))
 
   -- one channel leaves a host
   pub one_out : (v : ℕ) → Host r v → (c : ℕ) × Leaving r v c × ((d : ℕ) → Leaving r v d → d ≡ c)
   one_out v host =
       ⊎_elim
       (λ (s : (c : ℕ) × (c < channel_count r) × (tail r c ≡ v)).
-      (s.0, (s.1, s.2), λ d l. out_once (nodes_of r) (cables_of r) r.joined r.apart v d s.0 host l.0 s.1 l.1 s.2))
-      (λ (none_leaves : (c : ℕ) → c < channel_count r → tail r c ≡ v → ⊥). absurd (r.cabled v (host, uncabled (cables_of r) v none_leaves)))
+      (s.0, (s.1, s.2), λ d l. out_once (nodes_of r) (cables_of r) r.rules.2 r.rules.3 v d s.0 host l.0 s.1 l.1 s.2))
+      (λ (none_leaves : (c : ℕ) → c < channel_count r → tail r c ≡ v → ⊥). absurd (r.rules.4 v (host, uncabled (cables_of r) v none_leaves)))
       (leaving_among (cables_of r) v (channel_count r))
 
   -- and one enters it

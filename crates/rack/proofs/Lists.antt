@@ -1,7 +1,7 @@
 -- The channels that leave a node, one channel at a time. Assumes nothing.
-use Rattle.std.proofs.Common.{vec_items, ◌≡◌, ℕ, zero, suc, ◌<◌, ◌≤◌, cond, eq-eqb, List, [], ◌∷◌, ◌++◌, length, map, get_or, set, Vec, Global, sym, ap, ◌∙◌, subst, ⊎_elim, arith}
-use Rattle.std.proofs.lemmas.List.{get_or-set_same, get_or-set_other, get_or_append_left, get_or_push, get_or_past, get_or-map, length-map, length_push, map-set, map_push, append-nil}
-use Rattle.std.proofs.lemmas.Bool.{cases_eq, cases_lt, ne_eqb}
+use Rattle.std.proofs.Common.{vec_items, ◌≡◌, ℕ, zero, suc, ◌<◌, cond, eq-eqb, List, [], ◌∷◌, ◌++◌, length, map, get_or, set, Vec, Global, sym, ap, ◌∙◌, subst, ⊎_elim, arith}
+use Rattle.std.proofs.lemmas.List.{get_or-set_same, get_or-set_other, get_or-map, length-map, map-set, append-nil}
+use Rattle.std.proofs.lemmas.Bool.{cases_eq, ne_eqb}
 use Rattle.std.proofs.lemmas.List.Elements.{All-push, Contains-append_left, Contains-push}
 use Rattle.std.proofs.lemmas.List.Quantifiers.{all_pairs_push}
 use Rattle.std.specs.List.{All, AllPairs, Contains}
@@ -11,20 +11,6 @@ use Rattle.rack.specs.declared.rack.Rack.{Rack}
 use Rattle.rack.specs.Network.{tail_end}
 use Rattle.rack.specs.Racks.{cables_of, channel_count, Leaving}
 use Rattle.rack.specs.Index.{leaving_below, list_of}
-
--- one more empty list
-pub empty_more : (rows : List (Vec Channel Global)) (more : Vec Channel Global) → more.items ≡ [] → ((v : ℕ) → list_of rows v ≡ []) → (v : ℕ) → list_of (rows ++ more ∷ []) v ≡ []
-empty_more rows more is old v =
-    let items = λ (l : Vec Channel Global). l.items in
-    ap (λ x. get_or x v []) (map_push items rows more)
-    ∙ ⊎_elim
-    (λ (low : v < length (map items rows)). get_or_append_left (map items rows) (more.items ∷ []) [] v low ∙ old v)
-    (λ (high : length (map items rows) ≤ v).
-    ⊎_elim
-    (λ (e : v ≡ length (map items rows)). get_or_push (map items rows) more.items [] v (sym e) ∙ is)
-    (λ (other : v ≡ length (map items rows) → ⊥). get_or_past (map items rows ++ more.items ∷ []) v [] (rw length_push (omega arith)))
-    (cases_eq v (length (map items rows))))
-    (cases_lt v (length (map items rows)))
 
 -- the list has the channels that are P, in ascending order
 pub record Lists (P : ℕ → Type 0) (list : List Channel) : Type 0 where

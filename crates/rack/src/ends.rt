@@ -7,7 +7,7 @@ use crate::cable::{Cable, End};
 use crate::kind::Kind;
 use crate::numbers::Node;
 
-// What the node table says of a node: 1 a host, 2 a switch; 0 for what is no node.
+// What the node table says of a node: 1 a host, 2 a switch; 0 for what is no node. The byte, as the table has it; `kind_of` has it as a kind.
 pub fn kind_at(nodes: &[u8], node: Node) -> u8
     ensures { result ≡ slice_index nodes.now node.0 }
 {
@@ -26,7 +26,7 @@ fn has_port(nodes: &[u8], end: End) -> bool
     ensures { Decides result (Port nodes.now end) }
 {
     match kind_of(nodes, end.node) {
-        Some(kind) => 1 <= end.port.0 && end.port.0 <= kind.ports(),
+        Some(kind) => (1..=kind.ports()).contains(&end.port.0),
         None => false,
     }
 }
@@ -64,7 +64,14 @@ pub fn cable_at(cables: &[Cable], end: End) -> Option<usize>
         .position(|cable| cable.first == end || cable.second == end)
 }
 
-// Whether a cable ends at the node.
+// Whether none of the cables ends where the cable does.
+pub fn is_free(cables: &[Cable], cable: Cable) -> bool
+    ensures { Decides result (FreeEnd cables.now cable.first × FreeEnd cables.now cable.second) }
+{
+    cable_at(cables, cable.first).is_none() && cable_at(cables, cable.second).is_none()
+}
+
+// Whether a cable ends at the node, told by its place in the node table: a place may be too large for a `Node`, so numbers are compared.
 fn is_cabled(cables: &[Cable], node: usize) -> bool
     ensures { MatchBool result ((k : ℕ) × (k < length cables.now) × (((get_or cables.now k none).first.node.0 ≡ node) ⊎ ((get_or cables.now k none).second.node.0 ≡ node))) (Uncabled cables.now node) }
 {

@@ -16,8 +16,7 @@ pub enum RackFault {
 impl From<AllocError> for RackFault {
     ghost from_gives = { λ _ r. r ≡ Memory };
 
-    fn from(error: AllocError) -> RackFault {
-        let AllocError = error;
+    fn from(_: AllocError) -> RackFault {
         RackFault::Memory
     }
 }

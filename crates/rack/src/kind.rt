@@ -12,6 +12,7 @@ pub enum Kind {
 
 impl Kind {
     // The kind of that number in the node table; none if it is the number of no kind.
+    // No `TryFrom`: its error would be a type that says no more than none.
     pub fn of(number: u8) -> Option<Kind>
         ensures { MatchOption result ((number ≢ 1) × (number ≢ 2)) (λ kind. code kind ≡ number) }
     {

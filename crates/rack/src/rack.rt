@@ -1,5 +1,5 @@
 // A rack: nodes and cables that keep the rules, with the channels that leave each node.
-ghost use Rattle.rack.specs.Network.{Few, KnownKinds, AllJoin, Apart, NoneLonely};
+ghost use Rattle.rack.specs.Network.{KeepsRules};
 ghost use Rattle.rack.specs.Index.{Listed};
 
 use crate::cable::Cable;
@@ -10,15 +10,11 @@ pub mod make;
 
 #[derive(Drop)]
 pub struct Rack {
-    // the node table: 1 a host, 2 a switch
+    // the node table: 1 a host, 2 a switch, by bytes: definitions speak of them, and a list of `Kind` would be a translation
     nodes: Vec<u8>,
     cables: Vec<Cable>,
     // for each node the channels that leave it, in ascending order
     leaving: Vec<Vec<Channel>>,
-    ghost few: { Few nodes.items cables.items },
-    ghost kinds: { KnownKinds nodes.items },
-    ghost joined: { AllJoin nodes.items cables.items },
-    ghost apart: { Apart cables.items },
-    ghost cabled: { NoneLonely nodes.items cables.items },
+    ghost rules: { KeepsRules nodes.items cables.items },
     ghost listed: { Listed nodes.items cables.items leaving.items },
 }

@@ -1,57 +1,49 @@
 -- A host has one cable, and its other end is at a switch. Assumes nothing.
-use Rattle.std.proofs.Common.{◌≡◌, ℕ, zero, suc, ◌+◌, ◌*◌, ◌/◌, ◌%◌, ◌<◌, ◌≤◌, Bool, true, false, cond, eqb, ◌⊎◌, List, length, get_or, sym, ap, ◌∙◌, subst, inl, inr, ⊎_elim, arith}
-use Rattle.std.proofs.lemmas.Bool.{cases_eq, cases_lt, ne_eqb}
+use Rattle.std.proofs.Common.{◌≡◌, ℕ, zero, suc, ◌+◌, ◌*◌, ◌/◌, ◌%◌, ◌<◌, ◌≤◌, Bool, true, false, cond, eqb, ◌⊎◌, List, length, get_or, sym, ap, ◌∙◌, subst, inl, inr, ⊎_elim, add-one, arith, below_none, below_more}
+use Rattle.std.proofs.lemmas.Bool.{cases_eq}
+use Rattle.std.proofs.lemmas.Bool.Decides.{nat_tests}
 use Rattle.rack.specs.declared.cable.Cable.{Cable}
 use Rattle.rack.specs.declared.cable.End.{End}
 use Rattle.rack.specs.Network.{none, port_of, ports, tail_end, HostAt, SwitchAt, Port, JoinsPorts, EndsAt, Leaves}
 use Rattle.rack_laws.specs.Files.{OutOf, EndsOn, LeadsToSwitch, OneWayOut, OneCable, OneAtPort}
-use Rattle.reading.proofs.TailEnds.{tail_first, tail_second, leaves_first, leaves_second}
+use Rattle.rack.proofs.Channels.{tail_even, tail_odd, leaves_first, leaves_second}
 use Rattle.rack_laws.proofs.OneValue.{leaves_once}
+
+-- no end of the cable is at the node
+abbrev Off : Cable → ℕ → Type 0
+Off c v = (c.first.node.0 ≡ v → ⊥) × (c.second.node.0 ≡ v → ⊥)
+
+-- a cable has an end at a node or not
+on_or_off : (c : Cable) (v : ℕ) → EndsOn c v ⊎ Off c v
+on_or_off c v =
+    ⊎_elim (λ e. inl (inl e)) (λ (a : c.first.node.0 ≡ v → ⊥). ⊎_elim (λ e. inl (inr e)) (λ (b : c.second.node.0 ≡ v → ⊥). inr (a, b)) (cases_eq c.second.node.0 v)) (cases_eq c.first.node.0 v)
 
 -- a cable with an end at the node, or none among the first n
 abbrev Cabled : List Cable → ℕ → ℕ → Type 0
 Cabled cables v n = (k : ℕ) × (k < n) × EndsOn (get_or cables k none) v
 
 abbrev UncabledBelow : List Cable → ℕ → ℕ → Type 0
-UncabledBelow cables v n = (k : ℕ) → k < n → ((get_or cables k none).first.node.0 ≡ v → ⊥) × ((get_or cables k none).second.node.0 ≡ v → ⊥)
+UncabledBelow cables v n = (k : ℕ) → k < n → Off (get_or cables k none) v
 
 cabled_or_not : (cables : List Cable) (v n : ℕ) → Cabled cables v n ⊎ UncabledBelow cables v n
-cabled_or_not cables v zero = inr (λ k h. absurd (omega arith))
+cabled_or_not cables v zero = inr (below_none (λ k. Off (get_or cables k none) v))
 cabled_or_not cables v (suc n) =
-    let c = get_or cables n none in
     ⊎_elim
     (λ (h : Cabled cables v n). inl (h.0, omega (arith, h.1), h.2))
     (λ (bare : UncabledBelow cables v n).
     ⊎_elim
-    (λ (e : c.first.node.0 ≡ v). inl (n, omega arith, inl e))
-    (λ (a : c.first.node.0 ≡ v → ⊥).
-    ⊎_elim
-    (λ (e : c.second.node.0 ≡ v). inl (n, omega arith, inr e))
-    (λ (b : c.second.node.0 ≡ v → ⊥).
-    inr (λ k h.
-    ⊎_elim
-    (λ (low : k < n). bare k low)
-    (λ (high : n ≤ k).
-    let e : n ≡ k = omega arith in
-    subst (λ i. ((get_or cables i none).first.node.0 ≡ v → ⊥) × ((get_or cables i none).second.node.0 ≡ v → ⊥)) e (a, b))
-    (cases_lt k n)))
-    (cases_eq c.second.node.0 v))
-    (cases_eq c.first.node.0 v))
+    (λ (on : EndsOn (get_or cables n none) v). inl (n, omega arith, on))
+    (λ (off : Off (get_or cables n none) v). inr (subst (UncabledBelow cables v) (add-one n) (below_more (λ k. Off (get_or cables k none) v) n bare off)))
+    (on_or_off (get_or cables n none) v))
     (cabled_or_not cables v n)
 
 -- a host's port is its port 1
 host_port : (kind p : ℕ) → kind ≡ 1 → (1 ≤ p) × (p ≤ ports kind) → p ≡ 1
-host_port kind p is h = let q : p ≤ 1 = subst (λ x. p ≤ ports x) is h.1 in omega (arith, h.0)
+host_port kind p is h = grind (arith, nat_tests)
 
 -- what has a port and is no host is a switch
 port_switch : (kind p : ℕ) → (1 ≤ p) × (p ≤ ports kind) → (kind ≡ 1 → ⊥) → kind ≡ 2
-port_switch kind p h other =
-    ⊎_elim
-    (λ (e : kind ≡ 2). e)
-    (λ (off : kind ≡ 2 → ⊥).
-    let nil : p ≤ 0 = rw (ne_eqb kind 2 off, ne_eqb kind 1 other) at h.1 in
-    absurd (omega (arith, h.0)))
-    (cases_eq kind 2)
+port_switch kind p h other = grind (arith, nat_tests)
 
 -- the end of a cable at a host, from which its other end is at a switch
 module _ (nodes : List ℕ) (v : ℕ) (host : HostAt nodes v) where
@@ -76,8 +68,8 @@ module _ (nodes : List ℕ) (v : ℕ) (host : HostAt nodes v) where
 
 -- the channel of the cable that leaves the node
 out_of : (cables : List Cable) (v k : ℕ) → k < length cables → EndsOn (get_or cables k none) v → (c : ℕ) × OutOf cables v c
-out_of cables v k h (inl e) = (2 * k, (omega arith, ap (λ (x : End). x.node.0) (tail_first cables k) ∙ e))
-out_of cables v k h (inr e) = (2 * k + 1, (omega arith, ap (λ (x : End). x.node.0) (tail_second cables k) ∙ e))
+out_of cables v k h (inl e) = (2 * k, (omega arith, ap (λ (x : End). x.node.0) (tail_even cables k) ∙ e))
+out_of cables v k h (inr e) = (2 * k + 1, (omega arith, ap (λ (x : End). x.node.0) (tail_odd cables k) ∙ e))
 
 pub one_way_out : OneWayOut
 one_way_out nodes cables rules v host =
@@ -109,8 +101,8 @@ one_cable nodes cables rules v host =
     )
   where
     same : (c j v : ℕ) → EndsOn (get_or cables j none) v → j < length cables → ((d : ℕ) → OutOf cables v d → d ≡ c) → j ≡ c / 2
-    same c j v (inl e) low only = omega (arith, only (2 * j) (omega arith, ap (λ (x : End). x.node.0) (tail_first cables j) ∙ e))
-    same c j v (inr e) low only = omega (arith, only (2 * j + 1) (omega arith, ap (λ (x : End). x.node.0) (tail_second cables j) ∙ e))
+    same c j v (inl e) low only = omega (arith, only (2 * j) (omega arith, ap (λ (x : End). x.node.0) (tail_even cables j) ∙ e))
+    same c j v (inr e) low only = omega (arith, only (2 * j + 1) (omega arith, ap (λ (x : End). x.node.0) (tail_odd cables j) ∙ e))
 
 -- the channel of the cable that leaves by the port
 pub by_port : (cables : List Cable) (e : End) (k : ℕ) → k < length cables → EndsAt (get_or cables k none) e → (c : ℕ) × Leaves cables e c × (c / 2 ≡ k)

@@ -1,5 +1,5 @@
 -- A file has one answer. Assumes nothing.
-use Rattle.std.proofs.Common.{◌≡◌, ℕ, ◌/◌, ◌<◌, ◌⊎◌, List, [], ◌∷◌, length, Ok, Err, sym, refl, ap, ◌∙◌, subst, inl, inr, ⊎_elim}
+use Rattle.std.proofs.Common.{◌≡◌, ℕ, ◌<◌, ◌⊎◌, List, [], ◌∷◌, Ok, Err, sym, refl, ap, ◌∙◌, subst, inl, inr, ⊎_elim}
 use Rattle.std.proofs.lemmas.Bool.{cases_order}
 use Rattle.reading.specs.declared.fault.Rule.{Rule}
 use Rattle.reading.specs.declared.fault.FileFault.TheVariants.{Tables, Length, Record as Broken, Uncabled as Bare}
@@ -31,7 +31,6 @@ first_once limits f i j p q fine h fine' k =
 
 pub one_answer : OneAnswer
 one_answer limits f (Ok a) (Ok b) n n' c c' w w' h k =
-    let m = length f / 8 in
     let e : a ≡ b = λ i. record {
       nodes = (h.3.node_count ∙ sym k.3.node_count) i;
       cables = (h.3.cable_count ∙ sym k.3.cable_count) i;
@@ -43,16 +42,13 @@ one_answer limits f (Ok a) (Err Length) n n' c c' w w' h k = absurd (k h.0)
 one_answer limits f (Ok a) (Err (Broken i p)) n n' c c' w w' h k = absurd (kept_or_broken _ p (h.1 i k.1) k.3)
 one_answer limits f (Ok a) (Err (Bare v)) n n' c c' w w' h k = absurd (h.2 v k.2)
 one_answer limits f (Err Tables) s n n' c c' w w' h k = absurd h
-one_answer limits f (Err Length) (Ok b) n n' c c' w w' h k = absurd (h k.0)
-one_answer limits f (Err Length) (Err Tables) n n' c c' w w' h k = absurd k
 one_answer limits f (Err Length) (Err Length) n n' c c' w w' h k = refl
-one_answer limits f (Err Length) (Err (Broken i p)) n n' c c' w w' h k = absurd (h k.0)
-one_answer limits f (Err Length) (Err (Bare v)) n n' c c' w w' h k = absurd (h k.0)
-one_answer limits f (Err (Broken i p)) (Ok b) n n' c c' w w' h k = absurd (kept_or_broken _ p (k.1 i h.1) h.3)
+one_answer limits f (Err Length) (Err Tables) n n' c c' w w' h k = absurd k
+one_answer limits f (Err Length) _ n n' c c' w w' h k = absurd (h k.0)
 one_answer limits f (Err (Broken i p)) (Err Tables) n n' c c' w w' h k = absurd k
 one_answer limits f (Err (Broken i p)) (Err Length) n n' c c' w w' h k = absurd (k h.0)
 one_answer limits f (Err (Broken i p)) (Err (Broken j q)) n n' c c' w w' h k = ap Err (first_once limits f i j p q h.2 h.3 k.2 k.3)
-one_answer limits f (Err (Broken i p)) (Err (Bare v)) n n' c c' w w' h k = absurd (kept_or_broken _ p (k.1 i h.1) h.3)
+one_answer limits f (Err (Broken i p)) _ n n' c c' w w' h k = absurd (kept_or_broken _ p (k.1 i h.1) h.3)
 one_answer limits f (Err (Bare u)) (Ok b) n n' c c' w w' h k = absurd (k.2 u h.2)
 one_answer limits f (Err (Bare u)) (Err Tables) n n' c c' w w' h k = absurd k
 one_answer limits f (Err (Bare u)) (Err Length) n n' c c' w w' h k = absurd (k h.0)

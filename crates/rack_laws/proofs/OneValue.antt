@@ -1,7 +1,6 @@
 -- An accepted file gives every place of the tables one value. Assumes nothing.
 use Rattle.std.proofs.Common.{◌≡◌, ℕ, ◌+◌, ◌/◌, ◌%◌, ◌<◌, ◌⊎◌, List, length, get_or, sym, ap, ◌∙◌, subst, inl, inr, ⊎_elim, arith}
 use native.Mathlib.Nat.{div-add-mod}
-use Rattle.std.proofs.lemmas.Nat.{mod_below}
 use Rattle.std.proofs.lemmas.Bool.{cases_eq, cases_order}
 use Rattle.reading.specs.declared.add.Counts.{Counts}
 use Rattle.rack.specs.declared.cable.Cable.{Cable}
@@ -38,7 +37,7 @@ place_once net a b nodes nodes' cables cables' forwarding forwarding' good s t k
     ⊎_elim
     (λ (empty : n ≡ 0). s.blank (good.peopled empty) k ∙ sym (t.blank (good.peopled empty) k))
     (λ (some : n ≡ 0 → ⊥).
-    let low : k % n < n = mod_below k n (⊎_elim (λ (e : n ≡ 0). absurd (some e)) (λ (off : (n < 0) ⊎ (0 < n)). ⊎_elim (λ (x : n < 0). absurd (omega arith)) (λ (x : 0 < n). x) off) (cases_order n 0)) in
+    let low : k % n < n = omega arith in
     let at = div-add-mod k n in
     let here = forwarded_once net good (k / n) (k % n) _ _ (s.hop (k / n) (k % n) low) (t.hop (k / n) (k % n) low) in
     ap (λ i. get_or forwarding i 0) (sym at) ∙ here ∙ ap (λ i. get_or forwarding' i 0) at)

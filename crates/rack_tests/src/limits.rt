@@ -1,6 +1,6 @@
 // As many nodes and cables as are let in, and one more.
 use crate::files::Line::{Forwards, Host, Joins, Switch};
-use crate::files::{Line, bytes, check_accepted, check_refused, file};
+use crate::files::{Line, add, check_accepted, check_refused, file};
 use reading::add::Counts;
 use reading::limits::Limits;
 use std::alloc::{AllocError, Global};
@@ -18,15 +18,15 @@ fn counts(nodes: usize, cables: usize) -> Counts {
 fn laid(heap: Global, half: u16, cables: u16) -> Result<Vec<u8>, AllocError> {
     let mut out = Vec::new(heap);
     for v in 0..half {
-        out.extend_from_slice(&bytes(Switch(v)))?;
+        add(&mut out, Switch(v))?;
     }
     for v in 0..half {
-        out.extend_from_slice(&bytes(Switch(v.saturating_add(half))))?;
+        add(&mut out, Switch(v.saturating_add(half)))?;
     }
     for k in 0..cables {
         let v = k / 36;
         let port = (k % 36) as u8 + 1;
-        out.extend_from_slice(&bytes(Joins(v, port, v.saturating_add(half), port)))?;
+        add(&mut out, Joins(v, port, v.saturating_add(half), port))?;
     }
     Ok(out)
 }
@@ -37,7 +37,7 @@ fn nodes_at_the_limit(rt: HostRuntime) -> Result<(), Fail> {
     let all = Limits::at_most(128, 256);
     let mut most = laid(heap, 64, 0)?;
     check_accepted(&rt, heap, &most, all, counts(128, 0))?;
-    most.extend_from_slice(&bytes(Switch(128)))?;
+    add(&mut most, Switch(128))?;
     check_refused(&rt, heap, &most, all, 3, 128)?;
     check_refused(&rt, heap, &most, Limits::at_most(1000, 1000), 3, 128)
 }
@@ -59,7 +59,7 @@ fn narrower_limits(rt: HostRuntime) -> Result<(), Fail> {
     let few = Limits::at_most(12, 16);
     let mut most = laid(heap, 6, 0)?;
     check_accepted(&rt, heap, &most, few, counts(12, 0))?;
-    most.extend_from_slice(&bytes(Switch(12)))?;
+    add(&mut most, Switch(12))?;
     check_refused(&rt, heap, &most, few, 3, 12)?;
     let most = laid(heap, 1, 16)?;
     check_accepted(&rt, heap, &most, few, counts(2, 16))?;

@@ -8,9 +8,7 @@ use std::test::*;
 #[test]
 fn channels_of_each_node(rt: HostRuntime) -> Result<(), Fail> {
     let cables = [Cable::between(0, 1, 1, 1), Cable::between(1, 2, 2, 1)];
-    let Ok(rack) = Rack::from_tables(rt.alloc(), &[1, 2, 1], &cables) else {
-        return Err(Fail::new("refused"));
-    };
+    let rack = Rack::from_tables(rt.alloc(), &[1, 2, 1], &cables)?;
     let rows: [(u16, &[Channel]); 4] = [
         (0, &[Channel(0)]),
         (1, &[Channel(1), Channel(2)]),

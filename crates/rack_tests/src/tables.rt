@@ -5,6 +5,8 @@ use rack::cable::Cable;
 use reading::add::Counts;
 use reading::limits::Limits;
 use std::alloc::{AllocError, Global};
+use std::fmt::Debug;
+use std::process::Abort;
 use std::test::*;
 
 // A switch between two hosts, which forwards to both.
@@ -21,6 +23,20 @@ fn small(heap: Global) -> Result<Vec<u8>, AllocError> {
     file(heap, &lines)
 }
 
+// Each place of the table holds what is wanted there.
+fn check_places<T: Copy + PartialEq + Debug, F: Fn(usize) -> T>(
+    rt: &impl Abort,
+    table: &[T],
+    want: F,
+) -> Result<(), Fail>
+    requires { F.IsAlwaysCallable want }
+{
+    for (k, entry) in table.iter().enumerate() {
+        assert_eq!(rt; *entry, want(k), "place {k}");
+    }
+    Ok(())
+}
+
 #[test]
 fn place_by_place(rt: HostRuntime) -> Result<(), Fail> {
     let heap = rt.alloc();
@@ -35,34 +51,24 @@ fn place_by_place(rt: HostRuntime) -> Result<(), Fail> {
             entries: 2,
         }
     );
-    for (k, kind) in tables.nodes.iter().enumerate() {
-        let want = match k {
-            1 => 2,
-            0..=2 => 1,
-            3..=127 => 0,
-            _ => MARK,
-        };
-        assert_eq!(rt; *kind, want);
-    }
-    for (k, laid) in tables.cables.iter().enumerate() {
-        let want = match k {
-            0 => Cable::between(0, 1, 1, 1),
-            1 => Cable::between(1, 2, 2, 1),
-            2..=255 => Cable::none(),
-            _ => Cable::between(9, 9, 9, 9),
-        };
-        assert_eq!(rt; *laid, want);
-    }
-    for (k, hop) in tables.forwarding.iter().enumerate() {
-        let want = match k {
-            3 => 2,
-            5 => 3,
-            0..=16383 => 0,
-            _ => 9,
-        };
-        assert_eq!(rt; *hop, want);
-    }
-    Ok(())
+    check_places(&rt, &tables.nodes, |k| match k {
+        1 => 2,
+        0..=2 => 1,
+        3..=127 => 0,
+        _ => MARK,
+    })?;
+    check_places(&rt, &tables.cables, |k| match k {
+        0 => Cable::between(0, 1, 1, 1),
+        1 => Cable::between(1, 2, 2, 1),
+        2..=255 => Cable::none(),
+        _ => Cable::between(9, 9, 9, 9),
+    })?;
+    check_places(&rt, &tables.forwarding, |k| match k {
+        3 => 2,
+        5 => 3,
+        0..=16383 => 0,
+        _ => 9,
+    })
 }
 
 // An empty file describes nothing, and is accepted.

@@ -33,13 +33,14 @@ pub fn rank<G: Graph>(graph: &G, ranks: &mut [u16], ring: &mut [u16]) -> Result<
     rank_points(graph, &mut ranks[..n], &mut ring[..n])
 }
 
-// `rank`, in tables that have a place for each point and no more. They are lent, so this stands as a clause of each function below and in no struct.
+// `rank`, in tables that have a place for each point and no more. They are lent, and this stands as a clause of each function below: in a struct each would have to say that they are still the same tables.
 fn rank_points<G: Graph>(graph: &G, ranks: &mut [u16], ring: &mut [u16]) -> Result<u16, RankFault>
     requires ranks_fit { length ranks.old ≡ G.size graph.now }
     requires ring_fits { length ring.old ≡ G.size graph.now }
     ensures { Answered (G.follows graph.now) (G.size graph.now) ranks.old ranks.new ring.old ring.new result }
 {
     ranks.fill(0);
+    // no `map_err`: the error is made by a call that changes the ring
     match rounds::settle(graph, ranks) {
         Ok(top) => Ok(top),
         Err(stall) => {

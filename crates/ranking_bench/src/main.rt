@@ -15,27 +15,36 @@ use shapes::{Chain, Grid, Points, Ring};
 use std::time::Instant;
 use std::{env, io};
 
-// The best time of twenty runs, and the last run's answer.
+// The time of a ranking, and its answer.
 #[derive(Clone, Copy)]
 struct Timed {
     seconds: f64,
     answer: Result<u16, RankFault>,
 }
 
+fn one_run<G: Graph>(
+    rt: &HostRuntime,
+    graph: &G,
+    ranks: &mut [u16],
+    ring: &mut [u16],
+) -> io::Result<Timed> {
+    let start = Instant::now(rt)?;
+    let answer = rank(graph, ranks, ring);
+    let seconds = start.elapsed(rt)?.as_secs_f64();
+    Ok(Timed { seconds, answer })
+}
+
+// The best time of twenty runs, and the last run's answer.
 fn best_of<G: Graph>(rt: &HostRuntime, graph: &G) -> io::Result<Timed> {
     let mut ranks = [0; 4096];
     let mut ring = [0; 4096];
-    let mut best = Timed {
-        seconds: 1e9,
-        answer: Ok(0),
-    };
-    for _ in 0..20 {
-        let start = Instant::now(rt)?;
-        best.answer = rank(graph, &mut ranks, &mut ring);
-        let seconds = start.elapsed(rt)?.as_secs_f64();
-        if seconds < best.seconds {
-            best.seconds = seconds;
-        }
+    let mut best = one_run(rt, graph, &mut ranks, &mut ring)?;
+    for _ in 1..20 {
+        let run = one_run(rt, graph, &mut ranks, &mut ring)?;
+        best = Timed {
+            seconds: best.seconds.min(run.seconds),
+            answer: run.answer,
+        };
     }
     Ok(best)
 }
@@ -63,15 +72,13 @@ fn growth<G: Graph + Copy, F: Fn(Points) -> G>(
 }
 
 fn main(rt: HostRuntime) -> io::Result<()> {
-    for word in env::args(&rt)?.skip(1) {
-        if word.as_str() == "time" {
-            println!(rt; "time at 512, 1024, 2048 and 4096 points, over the time at 512")?;
-            growth(&rt, "grid ", Grid)?;
-            growth(&rt, "chain", Chain)?;
-            return growth(&rt, "ring ", Ring);
-        }
+    if !env::args(&rt)?.skip(1).any(|word| word.as_str() == "time") {
+        return println!(rt;
+            "usage: ranking_bench time   (prints how the time of a ranking grows from 512 to 4096 points)"
+        );
     }
-    println!(rt;
-        "usage: ranking_bench time   (prints how the time of a ranking grows from 512 to 4096 points)"
-    )
+    println!(rt; "time at 512, 1024, 2048 and 4096 points, over the time at 512")?;
+    growth(&rt, "grid ", Grid)?;
+    growth(&rt, "chain", Chain)?;
+    growth(&rt, "ring ", Ring)
 }

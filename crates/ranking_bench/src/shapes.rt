@@ -79,15 +79,11 @@ impl Graph for Chain {
 
     fn next_follower(&self, x: u16, from: u16) -> Option<u16> {
         let y = x + 1;
-        if from <= y && y < self.0.count {
-            Some(y)
-        } else {
-            None
-        }
+        (from <= y && y < self.0.count).then_some(y)
     }
 
     fn next_forerunner(&self, y: u16, from: u16) -> Option<u16> {
-        if from < y { Some(y - 1) } else { None }
+        (from < y).then(|| y - 1)
     }
 }
 
@@ -110,11 +106,11 @@ impl Graph for Ring {
 
     fn next_follower(&self, x: u16, from: u16) -> Option<u16> {
         let y = if x + 1 < self.0.count { x + 1 } else { 0 };
-        if from <= y { Some(y) } else { None }
+        (from <= y).then_some(y)
     }
 
     fn next_forerunner(&self, y: u16, from: u16) -> Option<u16> {
         let x = if y > 0 { y - 1 } else { self.0.count - 1 };
-        if from <= x { Some(x) } else { None }
+        (from <= x).then_some(x)
     }
 }

@@ -16,7 +16,7 @@ use Rattle.reading.specs.Format.{said}
 use Rattle.rack.specs.Network.{none, channels, tail_end, JoinsPorts, FreeEnd, KnownKinds, AllJoin, Apart, KeepsRules}
 use Rattle.rack.specs.Kinds.{code}
 use Rattle.reading.specs.Rules.{Described, Kept, asked, grown, described, Fine, Shown, Names, nothing, Answers}
-use Rattle.reading.proofs.TailEnds.{tail_first, tail_second, none_leaves}
+use Rattle.rack.proofs.Channels.{tail_even, tail_odd, none_leaves}
 use Rattle.rack.proofs.ShownTables.{shows_front}
 use Rattle.reading.proofs.OneMore.{Bounds, bounds_more}
 
@@ -35,10 +35,10 @@ module _ (cs : List Cable) (c : Cable) where
   more = cs ++ c ∷ []
 
   new_first : tail_end more (2 * length cs) ≡ c.first
-  new_first = tail_first more (length cs) ∙ ap (λ (x : Cable). x.first) (get_or_push cs c none (length cs) refl)
+  new_first = tail_even more (length cs) ∙ ap (λ (x : Cable). x.first) (get_or_push cs c none (length cs) refl)
 
   new_second : tail_end more (2 * length cs + 1) ≡ c.second
-  new_second = tail_second more (length cs) ∙ ap (λ (x : Cable). x.second) (get_or_push cs c none (length cs) refl)
+  new_second = tail_odd more (length cs) ∙ ap (λ (x : Cable). x.second) (get_or_push cs c none (length cs) refl)
 
   old : (b : ℕ) → b < 2 * length cs → tail_end more b ≡ tail_end cs b
   old b low = let within : b / 2 < length cs = omega arith in rw (get_or_append_left cs (c ∷ []) none (b / 2) within)

@@ -1,4 +1,3 @@
-pub mod TailEnds
 pub mod ForwardingPlaces
 pub mod OneMore
 pub mod Records

@@ -7,8 +7,8 @@ use crate::fault::Rule;
 use crate::limits::Limits;
 use crate::record::{Entry, Kind, Record};
 use rack::cable::{Cable, End};
-use rack::ends::{cable_at, is_host_at, is_switch_at, joins_ports};
-use rack::numbers::Node;
+use rack::ends::{cable_at, is_free, is_host_at, is_switch_at, joins_ports};
+use rack::numbers::{Channel, Node};
 
 // How many records of each group there are.
 #[derive(Clone, Copy, PartialEq, Eq, Debug)]
@@ -65,9 +65,7 @@ pub(crate) fn add_cable(
         return Err(Rule::End);
     }
     let count = counts.cables;
-    if cable_at(&cables[0..count], cable.first).is_some()
-        || cable_at(&cables[0..count], cable.second).is_some()
-    {
+    if !is_free(&cables[..count], cable) {
         return Err(Rule::Taken);
     }
     cables[count] = cable;
@@ -79,19 +77,13 @@ pub(crate) fn add_cable(
 }
 
 // The channel that leaves by the port, if a cable ends there.
-fn channel(cables: &[Cable], end: End) -> Option<u16>
+fn channel(cables: &[Cable], end: End) -> Option<Channel>
     requires { length cables.now ≤ 256 }
-    ensures { MatchOption result ((c : ℕ) → Leaves cables.now end c → ⊥) (λ c. Leaves cables.now end c) }
+    ensures { MatchOption result ((c : ℕ) → Leaves cables.now end c → ⊥) (λ c. Leaves cables.now end c.0) }
 {
-    for (k, cable) in cables.iter().enumerate() {
-        if cable.first == end {
-            return Some(2 * k as u16);
-        }
-        if cable.second == end {
-            return Some(2 * k as u16 + 1);
-        }
-    }
-    None
+    let k = cable_at(cables, end)?;
+    let back = u16::from(cables[k].first != end);
+    Some(Channel(2 * k as u16 + back))
 }
 
 // The place of the pair in the forwarding table of a file with that many nodes.
@@ -119,20 +111,16 @@ pub(crate) fn add_entry(
         return Err(Rule::Forwarding);
     }
     let count = counts.cables;
-    let Some(leaving) = channel(
-        &cables[0..count],
-        End {
-            node: entry.switch,
-            port: entry.port,
-        },
-    ) else {
-        return Err(Rule::Forwarding);
+    let end = End {
+        node: entry.switch,
+        port: entry.port,
     };
+    let leaving = channel(&cables[..count], end).ok_or(Rule::Forwarding)?;
     let at = place(counts.nodes, entry.switch, entry.host);
     if forwarding[at] != 0 {
         return Err(Rule::Forwarding);
     }
-    forwarding[at] = leaving + 1;
+    forwarding[at] = leaving.0 + 1;
     Ok(Counts {
         nodes: counts.nodes,
         cables: count,

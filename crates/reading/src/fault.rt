@@ -32,7 +32,7 @@ pub enum FileFault {
 }
 
 impl Rule {
-    // The number by which a record that breaks the rule is refused.
+    // The number by which a record that breaks the rule is refused. Named, and no `From`: the faults of other layers answer an `Option`.
     pub fn number(self) -> u8
         ensures { result ≡ rule_number self }
     {
@@ -54,8 +54,8 @@ impl FileFault {
         match self {
             FileFault::Tables => 9,
             FileFault::Length => 1,
-            FileFault::Record { record: _, rule } => rule.number(),
-            FileFault::Uncabled { host: _ } => 7,
+            FileFault::Record { rule, .. } => rule.number(),
+            FileFault::Uncabled { .. } => 7,
         }
     }
 
@@ -64,9 +64,8 @@ impl FileFault {
         ensures { result ≡ (file_refusal self).about }
     {
         match self {
-            FileFault::Tables => 0,
-            FileFault::Length => 0,
-            FileFault::Record { record, rule: _ } => record,
+            FileFault::Tables | FileFault::Length => 0,
+            FileFault::Record { record, .. } => record,
             FileFault::Uncabled { host } => host,
         }
     }

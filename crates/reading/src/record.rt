@@ -41,13 +41,13 @@ pub fn decode(bytes: &[u8]) -> Option<Record>
     ensures { result ≡ decoded bytes.now }
 {
     match bytes {
-        [72, a, b, 0, 0, 0, 0, 0] => Some(Record::Node(Kind::Host, Node(word(*a, *b)))),
-        [83, a, b, 0, 0, 0, 0, 0] => Some(Record::Node(Kind::Switch, Node(word(*a, *b)))),
-        [67, a, b, p, c, d, q, 0] => Some(Record::Joins(Cable {
+        [b'H', a, b, 0, 0, 0, 0, 0] => Some(Record::Node(Kind::Host, Node(word(*a, *b)))),
+        [b'S', a, b, 0, 0, 0, 0, 0] => Some(Record::Node(Kind::Switch, Node(word(*a, *b)))),
+        [b'C', a, b, p, c, d, q, 0] => Some(Record::Joins(Cable {
             first: end(*a, *b, *p),
             second: end(*c, *d, *q),
         })),
-        [70, a, b, c, d, p, 0, 0] => Some(Record::Forwards(Entry {
+        [b'F', a, b, c, d, p, 0, 0] => Some(Record::Forwards(Entry {
             switch: Node(word(*a, *b)),
             host: Node(word(*c, *d)),
             port: Port(*p),

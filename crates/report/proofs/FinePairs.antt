@@ -4,7 +4,7 @@ use Rattle.std.proofs.Math.Logic.{∥∥₁_elim}
 use Rattle.rack.specs.Racks.{channel_count}
 use Rattle.routing.specs.declared.pair.Pair.{Pair}
 use Rattle.routing.specs.declared.fault.WalkFault.{WalkFault}
-use Rattle.routing.specs.declared.fault.WalkFault.TheVariants.{NoPair, Endless, NoChannel, Elsewhere, Lane, OtherHost, Memory}
+use Rattle.routing.specs.declared.fault.WalkFault.TheVariants.{NoPair, Lane, Memory}
 use Rattle.routing.specs.Paths.{Routing, PairOf, OnPath, Delivered}
 use Rattle.routing.specs.Walks.{WalkStops}
 use Rattle.routing.proofs.Determined.{stopped_undelivered}
@@ -24,12 +24,9 @@ module _ (g : Routing) (levels : List ℕ) (lanes : ℕ) (p : Pair) (s : ℕ) (i
     -- the walk meets no fault
     never_stops : (room : ℕ) (f : WalkFault) → channel_count g.rack ≤ room → WalkStops g lanes p s room f → ⊥
     never_stops room (NoPair q) l h = h.1 pair
-    never_stops room (Endless q k) l h = stopped_undelivered g lanes p s room (Endless q k) h tt arrives
-    never_stops room (NoChannel q k) l h = stopped_undelivered g lanes p s room (NoChannel q k) h tt arrives
-    never_stops room (Elsewhere q k) l h = stopped_undelivered g lanes p s room (Elsewhere q k) h tt arrives
     never_stops room (Lane q k) l h = let x = h.1 in omega (arith, fine.low k x.0 (subst (λ n. OnPath g u v n k x.0) is x.1), x.2)
-    never_stops room (OtherHost q k) l h = stopped_undelivered g lanes p s room (OtherHost q k) h tt arrives
     never_stops room Memory l h = omega arith
+    never_stops room f l h = stopped_undelivered g lanes p s room f h tt arrives
 
   module _ (pair : PairOf g.rack u v) (all : ∥ AllPairs g levels lanes ∥₁) where
     pub no_fault : (room : ℕ) (f : WalkFault) → channel_count g.rack ≤ room → WalkStops g lanes p s room f → ⊥

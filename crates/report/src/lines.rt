@@ -49,6 +49,7 @@ impl fmt::Display for Line {
     }
 }
 
+// Each of the three lines as a text of its own: what `Line` shows, by a call with a contract.
 // `accepted` and the greatest rank.
 pub fn accepted_line(heap: Global, greatest: u16) -> Result<String, AllocError>
     ensures { IfOk result (λ s. string_bytes s ≡ accepted_line greatest) }

@@ -17,7 +17,7 @@ use routing::source::ForwardingSource;
 use routing::walk::{Step, walk};
 use std::alloc::Global;
 
-// Prints the pairs of a plan that are all fine.
+// Prints the pairs of a plan that are all fine. Each method says that the plan stays, since it may change all that it is lent.
 #[derive(Drop)]
 struct Printer<'a, 'b, S: ForwardingSource, M: LaneMap> {
     plan: &'a Plan<'b, S, M>,

@@ -62,8 +62,8 @@ impl From<PlanFault> for Refusal {
 impl From<CheckFault> for Refusal {
     ghost from_gives = { λ f r. r ≡ Check f };
 
-    fn from(fault: CheckFault) -> Refusal {
-        Refusal::Check(fault)
+    fn from(check: CheckFault) -> Refusal {
+        Refusal::Check(check)
     }
 }
 

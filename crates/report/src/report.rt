@@ -19,6 +19,7 @@ use routing::distances::fill_distances;
 use routing::downhill::Downhill;
 use routing::plan::Plan;
 use routing::rows::StoredRows;
+use routing::sizes::node_pairs;
 use routing::source::ForwardingSource;
 use routing::stored::Stored;
 use std::alloc::{AllocError, Global};
@@ -89,8 +90,7 @@ fn source_lines<'x, S: ForwardingSource>(
 fn downhill_lines(heap: Global, rack: &Rack) -> Result<String, Refusal>
     ensures { MatchResult result (λ s. SomeText rack.now (DownhillRouted rack.now) (string_bytes s)) (SomeLack rack.now (DownhillRouted rack.now)) }
 {
-    let nodes = rack.node_count();
-    let mut distances = vec![in heap; 0u8; nodes * nodes]?;
+    let mut distances = vec![in heap; 0u8; node_pairs(rack)]?;
     fill_distances(rack, &mut distances)?;
     let source = Downhill {
         rack,

@@ -6,7 +6,7 @@ ghost use Rattle.checking.specs.Starts.{Long};
 
 use rack::cable::Cable;
 use rack::rack::Rack;
-use routing::rows::{LEVELS, PORTS};
+use routing::sizes::{dependency_words, lane_bytes, node_pairs, virtual_channels};
 use std::alloc::{AllocError, Global};
 
 // The most nodes that a file has.
@@ -14,9 +14,6 @@ const NODES: usize = 128;
 
 // The most cables that it has.
 const CABLES: usize = 256;
-
-// How many virtual channels a channel has.
-const VIRTUAL: usize = 8;
 
 // What a file is read into. The tests of reading have tables of any length, with marks, in a struct of their own.
 #[derive(Drop)]
@@ -56,14 +53,13 @@ impl PlanTables {
         ensures levels { IfOk result (λ t. length t.levels.items ≡ node_count rack.now * node_count rack.now) }
         ensures long { IfOk result (λ t. Long rack.now (length t.levels.items) (length t.dependencies.items) (length t.ranks.items) (length t.ring.items)) }
     {
-        let nodes = rack.node_count();
-        let channels = rack.channel_count();
+        let points = virtual_channels(rack);
         Ok(PlanTables {
-            lanes: vec![in heap; 0u8; LEVELS * PORTS * channels]?,
-            levels: vec![in heap; 0u8; nodes * nodes]?,
-            dependencies: vec![in heap; 0u64; PORTS * channels]?,
-            ranks: vec![in heap; 0u16; VIRTUAL * channels]?,
-            ring: vec![in heap; 0u16; VIRTUAL * channels]?,
+            lanes: vec![in heap; 0u8; lane_bytes(rack)]?,
+            levels: vec![in heap; 0u8; node_pairs(rack)]?,
+            dependencies: vec![in heap; 0u64; dependency_words(rack)]?,
+            ranks: vec![in heap; 0u16; points]?,
+            ring: vec![in heap; 0u16; points]?,
         })
     }
 }

@@ -1,6 +1,7 @@
 -- The walk along a path has one answer. Assumes nothing.
 use Rattle.std.proofs.Common.{◌≡◌, ℕ, suc, ◌+◌, ◌-◌, ◌<◌, ◌≤◌, true, false, cond, eqb, ◌⊎◌, List, length, get_or, Some, None, Option, sym, refl, ap, ◌∙◌, subst, inl, inr, ⊎_elim, arith, eq-eqb, ne_eqb}
-use Rattle.std.proofs.lemmas.Bool.{cases_lt}
+use Rattle.std.proofs.lemmas.Bool.{both_ways, cases_lt, cond-true, cond-false}
+use Rattle.std.proofs.lemmas.Option.{none-some, same_Some}
 use Rattle.rack.specs.Racks.{channel_count, head}
 use Rattle.routing.specs.declared.pair.Pair.{Pair}
 use Rattle.routing.specs.declared.fault.WalkFault.{WalkFault}
@@ -11,9 +12,12 @@ use Rattle.routing.specs.Turns.{turns}
 use Rattle.routing.specs.Paths.{Routing, Hop, PairOf, hop_at, OnPath, Delivered}
 use Rattle.routing.specs.Walks.{hop_of, Reaches, Walked, Stops, WalkStops}
 use Rattle.routing.specs.Laws.{OfPath, StoppedUndelivered, WalkedOrStopped, OneFault, OnePath}
-use Rattle.routing.proofs.Hops.{some_none, some_same, came, gone, hop_last, from_first}
-use Rattle.routing.proofs.Rounds.{something, into_host, true_false, never_delivered}
-use Rattle.routing.proofs.Sourced.{cond_true, cond_false}
+use Rattle.routing.proofs.Hops.{came, gone, hop_last, from_first}
+use Rattle.routing.proofs.Rounds.{something, into_host, never_delivered}
+
+-- pairs of the same sender and receiver are the same
+pub same_nodes : (p q : Pair) → p.sender.0 ≡ q.sender.0 → p.receiver.0 ≡ q.receiver.0 → p ≡ q
+same_nodes p q a b = λ i. record { sender = record { 0 = a i }; receiver = record { 0 = b i } }
 
 -- what a walk that begins is found to be at the last hop that it reaches
 data Find : Type 0 where
@@ -63,19 +67,19 @@ module _ (g : Routing) (lanes : ℕ) (p : Pair) (s : ℕ) where
   -- a hop is named behind one that is not the last of the path
   follows : (c m j : ℕ) (h k : Hop) → hop_at g c v s m ≡ Some h → m < j → hop_at g c v s j ≡ Some k → (d : ℕ) × (g.next h.channel v ≡ Some d) × (turns g.rack h.channel d ≡ true)
   follows c m j h k e l f =
-      let some = something (hop_at g c v s (suc m)) (λ none. some_none k (sym f ∙ gone g v s c (suc m) j (omega arith) none)) in
+      let some = something (hop_at g c v s (suc m)) (λ none. none-some k (sym (gone g v s c (suc m) j (omega arith) none) ∙ f)) in
       let b = came g v s (hop_at g c v s m) some.0 some.1 in
-      let same : b.0 ≡ h = some_same _ _ (sym b.1 ∙ e) in
+      let same : b.0 ≡ h = same_Some _ _ (sym b.1 ∙ e) in
       subst (λ (x : Hop). (d : ℕ) × (g.next x.channel v ≡ Some d) × (turns g.rack x.channel d ≡ true)) same (b.3.0, b.3.1, b.3.2)
 
   find_endless : (m c : ℕ) → enters_switch g.rack c ≡ true → m + 1 ≡ C → find m c ≡ endless
-  find_endless m c sw e = cond_true _ _ _ sw ∙ cond_true _ _ _ (eq-eqb (m + 1) C e)
+  find_endless m c sw e = cond-true _ _ _ sw ∙ cond-true _ _ _ (eq-eqb (m + 1) C e)
 
   find_behind : (m c : ℕ) → enters_switch g.rack c ≡ true → m + 1 < C → find m c ≡ behind_it c (g.next c v)
-  find_behind m c sw l = cond_true _ _ _ sw ∙ cond_false _ _ _ (ne_eqb (m + 1) C (λ e. omega arith))
+  find_behind m c sw l = cond-true _ _ _ sw ∙ cond-false _ _ _ (ne_eqb (m + 1) C (λ e. omega arith))
 
   find_end : (m c : ℕ) → enters_switch g.rack c ≡ false → find m c ≡ cond (eqb (head g.rack c) v) arrived other
-  find_end m c sw = cond_false _ _ _ sw
+  find_end m c sw = cond-false _ _ _ sw
 
   -- nothing comes behind a hop that enters no switch
   end_stops : (m : ℕ) (h : Hop) → PairOf g.rack u v → OnPath g u v s m h → enters_switch g.rack h.channel ≡ false → (j : ℕ) (k : Hop) → m < j → Reaches g lanes u v s j k → ⊥
@@ -101,14 +105,14 @@ module _ (g : Routing) (lanes : ℕ) (p : Pair) (s : ℕ) where
       (λ (l' : n < m). hop_last g v s there.0 n m k h there.2 sw l' (from_first g u v s there.0 m h pair.0 there.1 on))
       (λ (l' : m ≤ n).
       let e : m ≡ n = omega arith in
-      let same : k ≡ h = some_same _ _ (sym there.2 ∙ from_first g u v s there.0 n h pair.0 there.1 (subst (λ i. OnPath g u v s i h) e on)) in
+      let same : k ≡ h = same_Some _ _ (sym there.2 ∙ from_first g u v s there.0 n h pair.0 there.1 (subst (λ i. OnPath g u v s i h) e on)) in
       ne (ap (λ (x : Hop). head g.rack x.channel) (sym same) ∙ d.1.3))
       (cases_lt n m))
       (cases_lt m n)
 
   -- a switch is not the receiver
   switch_on : (h : Hop) → PairOf g.rack u v → enters_switch g.rack h.channel ≡ true → head g.rack h.channel ≡ v → ⊥
-  switch_on h pair sw e = true_false _ sw (into_host g h.channel v pair.1 e)
+  switch_on h pair sw e = both_ways _ (into_host g h.channel v pair.1 e) sw
 
   stopped_of : (room : ℕ) (f : WalkFault) → WalkStops g lanes p s room f → OfPath f → Delivered g u v s → ⊥
   stopped_of room (NoPair q) e o d = o
@@ -120,7 +124,7 @@ module _ (g : Routing) (lanes : ℕ) (p : Pair) (s : ℕ) where
       let st = e.0.1 in
       let h = e.0.0 in
       undelivered (k - 1) h st.pair st.before.0
-      (λ j i l on. let n = next_named (k - 1) j h i st.pair st.before.0 l on in some_none n.0 (sym n.1 ∙ e.0.2))
+      (λ j i l on. let n = next_named (k - 1) j h i st.pair st.before.0 l on in none-some n.0 (sym e.0.2 ∙ n.1))
       (switch_on h st.pair st.switch)
       d
   stopped_of room (Elsewhere q k) e o d =
@@ -130,8 +134,8 @@ module _ (g : Routing) (lanes : ℕ) (p : Pair) (s : ℕ) where
       undelivered (k - 1) h st.pair st.before.0
       (λ j i l on.
       let n = next_named (k - 1) j h i st.pair st.before.0 l on in
-      let same : n.0 ≡ x.0 = some_same _ _ (sym n.1 ∙ x.1) in
-      true_false _ (subst (λ y. turns g.rack h.channel y ≡ true) same n.2) x.2)
+      let same : n.0 ≡ x.0 = same_Some _ _ (sym n.1 ∙ x.1) in
+      both_ways _ x.2 (subst (λ y. turns g.rack h.channel y ≡ true) same n.2))
       (switch_on h st.pair st.switch)
       d
   stopped_of room (Lane q k) e o d = o
@@ -169,7 +173,7 @@ module _ (g : Routing) (lanes : ℕ) (p : Pair) (s : ℕ) where
           reaches = st.before;
           below = omega (arith, st.later);
           found = find_behind (k - 1) h.channel st.switch (omega (arith, one_more)) ∙ ap (behind_it h.channel) none;
-          stops = λ j i l few r. let d = next_named (k - 1) j h i st.pair st.before.0 l r.0 in some_none d.0 (sym d.1 ∙ none);
+          stops = λ j i l few r. let d = next_named (k - 1) j h i st.pair st.before.0 l r.0 in none-some d.0 (sym none ∙ d.1);
         }
 
     last_elsewhere : k < C → (d : ℕ) → g.next h.channel v ≡ Some d → turns g.rack h.channel d ≡ false → Last (k - 1) h elsewhere
@@ -178,11 +182,11 @@ module _ (g : Routing) (lanes : ℕ) (p : Pair) (s : ℕ) where
           pair = st.pair;
           reaches = st.before;
           below = omega (arith, st.later);
-          found = find_behind (k - 1) h.channel st.switch (omega (arith, one_more)) ∙ ap (behind_it h.channel) nx ∙ cond_false _ _ _ tn;
+          found = find_behind (k - 1) h.channel st.switch (omega (arith, one_more)) ∙ ap (behind_it h.channel) nx ∙ cond-false _ _ _ tn;
           stops = λ j i l few r.
               let e = next_named (k - 1) j h i st.pair st.before.0 l r.0 in
-              let same : e.0 ≡ d = some_same _ _ (sym e.1 ∙ nx) in
-              true_false _ (subst (λ x. turns g.rack h.channel x ≡ true) same e.2) tn;
+              let same : e.0 ≡ d = same_Some _ _ (sym e.1 ∙ nx) in
+              both_ways _ tn (subst (λ x. turns g.rack h.channel x ≡ true) same e.2);
         }
 
     last_above : k < C → (i : Hop) → OnPath g u v s k i → lanes ≤ i.lane → Last (k - 1) h above
@@ -192,7 +196,7 @@ module _ (g : Routing) (lanes : ℕ) (p : Pair) (s : ℕ) where
           pair = st.pair;
           reaches = st.before;
           below = omega (arith, st.later);
-          found = find_behind (k - 1) h.channel st.switch (omega (arith, one_more)) ∙ ap (behind_it h.channel) e.1 ∙ cond_true _ _ _ e.2;
+          found = find_behind (k - 1) h.channel st.switch (omega (arith, one_more)) ∙ ap (behind_it h.channel) e.1 ∙ cond-true _ _ _ e.2;
           stops = λ j o l few r. omega (arith, r.1 k i st.later (omega (arith, one_more)) on);
         }
 
@@ -202,7 +206,7 @@ module _ (g : Routing) (lanes : ℕ) (p : Pair) (s : ℕ) where
         pair = pair;
         reaches = r;
         below = few;
-        found = find_end k h.channel sw ∙ cond_false _ _ _ (ne_eqb (head g.rack h.channel) v ne);
+        found = find_end k h.channel sw ∙ cond-false _ _ _ (ne_eqb (head g.rack h.channel) v ne);
         stops = λ j i l few' r'. end_stops k h pair r.0 sw j i l r';
       }
 
@@ -214,7 +218,7 @@ module _ (g : Routing) (lanes : ℕ) (p : Pair) (s : ℕ) where
         pair = w.pair;
         reaches = (w.ends.1, λ j k a b on. w.low j k a on);
         below = omega (arith, w.some, w.short);
-        found = find_end (length path - 1) h.channel sw ∙ cond_true _ _ _ (eq-eqb (head g.rack h.channel) v w.ends.3);
+        found = find_end (length path - 1) h.channel sw ∙ cond-true _ _ _ (eq-eqb (head g.rack h.channel) v w.ends.3);
         stops = λ j i l few r. end_stops (length path - 1) h w.pair w.ends.1 sw j i l r;
       }
 
@@ -250,7 +254,7 @@ module _ (g : Routing) (lanes : ℕ) (p : Pair) (s : ℕ) where
     same_channel : h ≡ h'
     same_channel =
         let on = a.reaches.0 in
-        some_same _ _ (sym on.2 ∙ from_first g u v s on.0 m h' a.pair.0 on.1 (subst (λ n. OnPath g u v s n h') (sym same_hop) b.reaches.0))
+        same_Some _ _ (sym on.2 ∙ from_first g u v s on.0 m h' a.pair.0 on.1 (subst (λ n. OnPath g u v s n h') (sym same_hop) b.reaches.0))
 
     same_find : x ≡ x'
     same_find = sym a.found ∙ ap (λ n. find n h.channel) same_hop ∙ ap (λ (k : Hop). find m' k.channel) same_channel ∙ b.found
@@ -299,5 +303,5 @@ one_path g lanes p s path path' w w' =
       long,
       λ i d d' l.
           let on = w.lists i d l in
-          some_same _ _ (sym on.2 ∙ from_first g p.sender.0 p.receiver.0 s on.0 i (hop_of (get_or path' i d')) w.pair.0 on.1 (w'.lists i d' (omega arith))),
+          same_Some _ _ (sym on.2 ∙ from_first g p.sender.0 p.receiver.0 s on.0 i (hop_of (get_or path' i d')) w.pair.0 on.1 (w'.lists i d' (omega arith))),
     )

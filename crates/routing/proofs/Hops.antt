@@ -1,52 +1,43 @@
 -- The hops of a path, one behind the other. Assumes nothing.
-use Rattle.std.proofs.Common.{◌≡◌, ℕ, zero, suc, ◌+◌, ◌<◌, ◌≤◌, Bool, true, false, ◌⊎◌, Some, None, Option, sym, refl, ap, ◌∙◌, subst, inl, inr, ⊎_elim, arith}
-use Rattle.std.proofs.lemmas.Bool.{cases_eq}
+use Rattle.std.proofs.Common.{◌≡◌, ℕ, zero, suc, ◌+◌, ◌<◌, ◌≤◌, true, false, Some, None, Option, sym, refl, ap, ◌∙◌, subst, ⊎_elim, arith}
+use Rattle.std.proofs.lemmas.Bool.{cases_eq, cases_Bool, cond-true, cond-false}
+use Rattle.std.proofs.lemmas.Option.{none-some, same_Some}
+use Rattle.rack.specs.declared.rack.Rack.{Rack}
 use Rattle.rack.specs.Racks.{channel_count, Host, Leaving}
 use Rattle.rack.proofs.Facts.{one_out}
 use Rattle.routing.specs.Sources.{enters_switch}
 use Rattle.routing.specs.Turns.{turns}
 use Rattle.routing.specs.Paths.{Routing, Hop, hop, named, behind, hop_at, OnPath}
-use Rattle.routing.proofs.Sourced.{cond_true, cond_false}
 use Rattle.routing.proofs.Tests.{turns_below}
-
-pub by_bool : (b : Bool) → (b ≡ true) ⊎ (b ≡ false)
-by_bool true = inl refl
-by_bool false = inr refl
-
-pub some_none : {X : Type 0} (x : X) → Some x ≡ None → ⊥
-some_none x e = let z : ◌≡◌ {A = ℕ} 0 1 = cc in omega arith
-
-pub some_same : {X : Type 0} (x y : X) → Some x ≡ Some y → x ≡ y
-some_same x y e = cc
 
 module _ (g : Routing) (v s : ℕ) where
   -- the hop that is named behind a channel that enters a switch
   pub behind_some : (h : Hop) (d : ℕ) → enters_switch g.rack h.channel ≡ true → g.next h.channel v ≡ Some d → turns g.rack h.channel d ≡ true → behind g v s (Some h) ≡ Some (hop d (g.lane h.channel d s))
-  behind_some h d sw nx tn = cond_true _ _ _ sw ∙ ap (named g v s h.channel) nx ∙ cond_true _ _ _ tn
+  behind_some h d sw nx tn = cond-true _ _ _ sw ∙ ap (named g v s h.channel) nx ∙ cond-true _ _ _ tn
 
   pub behind_ends : (h : Hop) → enters_switch g.rack h.channel ≡ false → behind g v s (Some h) ≡ None
-  behind_ends h sw = cond_false _ _ _ sw
+  behind_ends h sw = cond-false _ _ _ sw
 
   came_named :
       (k o : Hop) (x : Option ℕ) → named g v s k.channel x ≡ Some o →
       (d : ℕ) × (x ≡ Some d) × (turns g.rack k.channel d ≡ true) × (o ≡ hop d (g.lane k.channel d s))
-  came_named k o None e = absurd (some_none o (sym e))
+  came_named k o None e = absurd (none-some o e)
   came_named k o (Some d) e =
       ⊎_elim
-      (λ (t : turns g.rack k.channel d ≡ true). (d, refl, t, some_same _ _ (sym e ∙ cond_true _ _ _ t)))
-      (λ (t : turns g.rack k.channel d ≡ false). absurd (some_none o (sym e ∙ cond_false _ _ _ t)))
-      (by_bool (turns g.rack k.channel d))
+      (λ (t : turns g.rack k.channel d ≡ true). (d, refl, t, same_Some _ _ (sym e ∙ cond-true _ _ _ t)))
+      (λ (t : turns g.rack k.channel d ≡ false). absurd (none-some o (sym (cond-false _ _ _ t) ∙ e)))
+      (cases_Bool (turns g.rack k.channel d))
 
   -- a hop stands behind another, which enters a switch
   pub came :
       (x : Option Hop) (o : Hop) → behind g v s x ≡ Some o →
       (k : Hop) × (x ≡ Some k) × (enters_switch g.rack k.channel ≡ true) × ((d : ℕ) × (g.next k.channel v ≡ Some d) × (turns g.rack k.channel d ≡ true) × (o ≡ hop d (g.lane k.channel d s)))
-  came None o e = absurd (some_none o (sym e))
+  came None o e = absurd (none-some o e)
   came (Some k) o e =
       ⊎_elim
-      (λ (t : enters_switch g.rack k.channel ≡ true). (k, refl, t, came_named k o (g.next k.channel v) (sym (cond_true _ _ _ t) ∙ e)))
-      (λ (t : enters_switch g.rack k.channel ≡ false). absurd (some_none o (sym e ∙ cond_false _ _ _ t)))
-      (by_bool (enters_switch g.rack k.channel))
+      (λ (t : enters_switch g.rack k.channel ≡ true). (k, refl, t, came_named k o (g.next k.channel v) (sym (cond-true _ _ _ t) ∙ e)))
+      (λ (t : enters_switch g.rack k.channel ≡ false). absurd (none-some o (sym (cond-false _ _ _ t) ∙ e)))
+      (cases_Bool (enters_switch g.rack k.channel))
 
   module _ (c : ℕ) where
     -- a path that has ended stays so
@@ -74,11 +65,12 @@ module _ (g : Routing) (v s : ℕ) where
 
     -- nothing comes behind a hop that enters no switch
     pub hop_last : (i j : ℕ) (h k : Hop) → hop_at g c v s i ≡ Some h → enters_switch g.rack h.channel ≡ false → i < j → hop_at g c v s j ≡ Some k → ⊥
-    hop_last i j h k e sw l f = some_none k (sym f ∙ gone (suc i) j (omega arith) (ap (behind g v s) e ∙ behind_ends h sw))
+    hop_last i j h k e sw l f = none-some k (sym (gone (suc i) j (omega arith) (ap (behind g v s) e ∙ behind_ends h sw)) ∙ f)
 
--- the path of a pair begins on one channel
+-- one channel leaves a host, and the path of a pair begins on it
+pub only_out : (r : Rack) (u b c : ℕ) → Host r u → Leaving r u b → Leaving r u c → b ≡ c
+only_out r u b c host l m = let one = one_out r u host in one.2 b l ∙ sym (one.2 c m)
+
 pub from_first : (g : Routing) (u v s c i : ℕ) (h : Hop) → Host g.rack u → Leaving g.rack u c → OnPath g u v s i h → hop_at g c v s i ≡ Some h
 from_first g u v s c i h host leaving on =
-    let one = one_out g.rack u host in
-    let same : on.0 ≡ c = one.2 on.0 on.1 ∙ sym (one.2 c leaving) in
-    subst (λ n. hop_at g n v s i ≡ Some h) same on.2
+    subst (λ n. hop_at g n v s i ≡ Some h) (only_out g.rack u on.0 c host on.1 leaving) on.2

@@ -1,9 +1,9 @@
 pub mod Tests
-pub mod Leavers
 pub mod Sourced
 pub mod Lanes
 pub mod Hops
 pub mod Walking
+mod Counts
 mod Missing
 mod Columns
 mod Reaching

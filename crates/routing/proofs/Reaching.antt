@@ -1,7 +1,7 @@
 -- What one round does, a node and a channel at a time. Assumes nothing.
 use Rattle.std.proofs.Common.{◌≡◌, ℕ, ◌+◌, ◌*◌, ◌<◌, ◌≤◌, Bool, true, false, ◌||◌, List, length, get_or, set, sym, refl, ap, ◌∙◌, subst, ⊎_elim, arith}
 use Rattle.std.proofs.lemmas.List.{get_or_default}
-use Rattle.std.proofs.lemmas.Bool.{cases_eq, true≢false}
+use Rattle.std.proofs.lemmas.Bool.{cases_eq, or_right, true≢false}
 use Rattle.rack.specs.declared.cable.End.{End}
 use Rattle.rack.specs.declared.numbers.Channel.{Channel}
 use Rattle.rack.specs.declared.rack.Rack.{Rack}
@@ -9,7 +9,7 @@ use Rattle.rack.specs.Network.{head_end}
 use Rattle.rack.specs.Racks.{cables_of, node_count, channel_count, head, Leaving, back}
 use Rattle.rack.proofs.Facts.{tail_below, head_below, ways_back}
 use Rattle.routing.specs.Ways.{far, Grown, Leads, Reached, Passes, Spread}
-use Rattle.routing.proofs.Leavers.{Leavers}
+use Rattle.rack.proofs.Lists.{Lists}
 use Rattle.routing.proofs.Columns.{far_set_same, far_set_other, grown_none, grown_set, grown_weaken, grown_join}
 
 -- the place of the node that a channel enters, from its end
@@ -22,7 +22,7 @@ pub record Reaching (r : Rack) (v x d : ℕ) (list : List Channel) (k : ℕ) (ol
   pub all : (i : ℕ) (c : Channel) → i < k → far (node_count r) v new (head r (get_or list i c).0) ≡ 255 → ⊥
 
 -- the channels out of x, in their order
-module _ (r : Rack) (v x d : ℕ) (list : List Channel) (leavers : Leavers r x list) where
+module _ (r : Rack) (v x d : ℕ) (list : List Channel) (leavers : Lists (Leaving r x) list) where
   pub reaching_none : (t : List ℕ) → Reaching r v x d list 0 t t false
   reaching_none t = record { grown = grown_none (node_count r) v d (λ w. Leads r w x) t; all = λ i c h. absurd (omega arith) }
 
@@ -92,19 +92,12 @@ module _ (r : Rack) (v x d : ℕ) (list : List Channel) (leavers : Leavers r x l
             p.all at.0 y (omega (arith, at.1)) (subst (λ (q : Channel). far (node_count r) v now' (head r q.0) ≡ 255) (sym at.2) (ap (far (node_count r) v now') w.4 ∙ z));
       }
 
-or_yes : (a b : Bool) → b ≡ true → a || b ≡ true
-or_yes true b e = refl
-or_yes false b e = e
-
 or_no : (a b : Bool) → b ≡ false → a || b ≡ a
 or_no true b e = refl
 or_no false b e = e
 
 -- the nodes, in their order
 module _ (r : Rack) (v d : ℕ) (few : d < 128) where
-  pub spread_none : (t : List ℕ) → Spread r v d 0 t t false
-  spread_none t = record { grown = grown_none (node_count r) v (d + 1) _ t; all = λ x h. absurd (omega arith) }
-
   module _ (x : ℕ) (h : x < node_count r) (old now' : List ℕ) (found : Bool) (p : Spread r v d x old now' found) where
     abbrev Source : ℕ → Type 0
     Source w = (y : ℕ) × (y < node_count r) × Passes r v d old y × Leads r w y
@@ -157,6 +150,6 @@ module _ (r : Rack) (v d : ℕ) (few : d < 128) where
 
       pub spread_reach : Spread r v d (x + 1) old new (found || more)
       spread_reach = record {
-        grown = grown_join (node_count r) v (d + 1) Source old now' new found more (found || more) p.grown (grown_weaken (node_count r) v (d + 1) (λ w. Leads r w x) Source now' new more (λ w leads. (x, h, ok, leads)) q.grown) (or_yes found more) (or_no found more);
+        grown = grown_join (node_count r) v (d + 1) Source old now' new found more (found || more) p.grown (grown_weaken (node_count r) v (d + 1) (λ w. Leads r w x) Source now' new more (λ w leads. (x, h, ok, leads)) q.grown) (or_right found more) (or_no found more);
         all = up_to_node (λ y. Passes r v d old y → (w : ℕ) → Leads r w y → far (node_count r) v new w ≡ 255 → ⊥) (λ y m s w leads e. p.all y m s w leads (keeps w (leads_below w y leads) e)) (λ s w leads e. all_here w leads e);
       }

@@ -1,12 +1,13 @@
 -- A channel that comes twice comes for ever. Assumes nothing.
-use Rattle.std.proofs.Common.{◌≡◌, ℕ, zero, suc, ◌+◌, ◌-◌, ◌<◌, ◌≤◌, Bool, true, false, cond, Some, None, Option, sym, refl, ap, ◌∙◌, subst, ⊎_elim, arith}
-use Rattle.std.proofs.lemmas.Bool.{cases_lt, cases_eq}
+use Rattle.std.proofs.Common.{◌≡◌, ℕ, zero, suc, ◌+◌, ◌-◌, ◌<◌, ◌≤◌, true, false, cond, Some, None, Option, sym, refl, ap, ◌∙◌, subst, ⊎_elim, arith}
+use Rattle.std.proofs.lemmas.Bool.{both_ways, cases_lt, cases_eq}
+use Rattle.std.proofs.lemmas.Option.{none-some, same_Some}
 use Rattle.rack.specs.Racks.{channel_count, head, Host, Switch}
 use Rattle.rack.proofs.Facts.{one_in, host_no_switch}
 use Rattle.routing.specs.Sources.{enters_switch}
 use Rattle.routing.specs.Paths.{Routing, Hop, named, behind, hop_at, EndsAtHop, Delivered}
 use Rattle.routing.specs.Laws.{NeverEnds, NeverDelivered, DeliveredInTime, NoChannelTwice}
-use Rattle.routing.proofs.Hops.{some_none, some_same, came, gone, hop_below, behind_ends, from_first}
+use Rattle.routing.proofs.Hops.{came, gone, hop_below, behind_ends, from_first}
 use Rattle.routing.proofs.Repeats.{twice}
 use Rattle.routing.proofs.Tests.{enters_no}
 
@@ -29,14 +30,11 @@ ahead x f (suc i) = f i
 pub into_host : (g : Routing) (c v : ℕ) → Host g.rack v → head g.rack c ≡ v → enters_switch g.rack c ≡ false
 into_host g c v host e = enters_no g.rack c (λ w s. host_no_switch g.rack v host (subst (Switch g.rack) (sym s.1 ∙ e) s.2))
 
-pub true_false : (b : Bool) → b ≡ true → b ≡ false → ⊥
-true_false b p q = let z : ◌≡◌ {A = ℕ} 0 1 = cc in omega arith
-
 module _ (g : Routing) (c v s : ℕ) where
   -- a hop before one that is there is there, and enters a switch
   pub before : (i j : ℕ) (k : Hop) → i < j → hop_at g c v s j ≡ Some k → (h : Hop) × (hop_at g c v s i ≡ Some h) × (enters_switch g.rack h.channel ≡ true)
   before i j k l e =
-      let some = something (hop_at g c v s (suc i)) (λ none. some_none k (sym e ∙ gone g v s c (suc i) j (omega arith) none)) in
+      let some = something (hop_at g c v s (suc i)) (λ none. none-some k (sym (gone g v s c (suc i) j (omega arith) none) ∙ e)) in
       let b = came g v s (hop_at g c v s i) some.0 some.1 in
       (b.0, b.1, b.2)
 
@@ -62,7 +60,7 @@ module _ (g : Routing) (c v s : ℕ) where
     going zero n f e = omega arith
     going (suc fuel) n f e =
         ⊎_elim
-        (λ (low : n < suc j). some_none k (sym again ∙ gone g v s c n j (omega arith) e))
+        (λ (low : n < suc j). none-some k (sym (gone g v s c n j (omega arith) e) ∙ again))
         (λ (high : suc j ≤ n).
         let m : suc j + (n - suc j) ≡ n = omega arith in
         let less : suc i + (n - suc j) < fuel = omega arith in
@@ -105,7 +103,7 @@ module _ (g : Routing) (c v s : ℕ) where
     repeated zero (suc j) l m e =
         let k = each j (omega arith) in
         let q : k.0.channel ≡ back_in = sym (ap channel_of k.1) ∙ sym e in
-        absurd (true_false _ k.2 (into_host g k.0.channel u host (ap (head g.rack) q ∙ (one_in g.rack u host).1.1)))
+        absurd (both_ways _ (into_host g k.0.channel u host (ap (head g.rack) q ∙ (one_in g.rack u host).1.1)) k.2)
     repeated (suc i) (suc j) l m e =
         let a = each i (omega arith) in
         let b = each j (omega arith) in
@@ -127,8 +125,8 @@ never_delivered g u v s host end w d =
     let n = d.0 in
     let k = never_ends g u v s host w n in
     let first = k.1.0 in
-    let same : k.0 ≡ d.1.0 = some_same _ _ (sym k.1.2 ∙ from_first g u v s first n d.1.0 host k.1.1 d.1.1) in
-    true_false _ k.2 (into_host g k.0.channel v end (ap (λ (x : Hop). head g.rack x.channel) same ∙ d.1.3))
+    let same : k.0 ≡ d.1.0 = same_Some _ _ (sym k.1.2 ∙ from_first g u v s first n d.1.0 host k.1.1 d.1.1) in
+    both_ways _ (into_host g k.0.channel v end (ap (λ (x : Hop). head g.rack x.channel) same ∙ d.1.3)) k.2
 
 in_time : (g : Routing) (u v s : ℕ) → Host g.rack u → Host g.rack v → Delivered g u v s → (n : ℕ) × (n < channel_count g.rack) × EndsAtHop g u v s n
 in_time g u v s host end d =

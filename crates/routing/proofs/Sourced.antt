@@ -1,33 +1,26 @@
 -- What the forwarding sources assign, from what the rack answers. Assumes nothing.
-use Rattle.std.proofs.Common.{◌≡◌, ℕ, zero, suc, ◌+◌, ◌<◌, ◌≤◌, Bool, true, false, cond, eqb, List, length, get_or, Some, None, Option, MatchOption, sym, refl, ap, ◌∙◌, subst, ⊎_elim, arith, eq-eqb, ne_eqb}
+use Rattle.std.proofs.Common.{◌≡◌, ℕ, zero, suc, ◌+◌, ◌<◌, ◌≤◌, Bool, true, false, eqb, List, length, get_or, Some, None, Option, MatchOption, sym, refl, ap, ◌∙◌, subst, ⊎_elim, arith, eq-eqb, ne_eqb}
 use Rattle.std.specs.List.{AllWithin, HoldsAt}
-use Rattle.std.proofs.lemmas.Bool.{cases_eq, cases_lt}
+use Rattle.std.proofs.lemmas.Bool.{cases_eq, cases_lt, and_from, and_left, and_right, cond-true, cond-false}
 use Rattle.rack.specs.declared.numbers.Channel.{Channel}
 use Rattle.rack.specs.declared.rack.Rack.{Rack}
 use Rattle.rack.specs.Racks.{channel_count, head, tail, Leaving}
 use Rattle.routing.specs.Sources.{numbers, told, one_nearer, least}
-use Rattle.routing.proofs.Leavers.{Leavers}
-use Rattle.routing.proofs.Tests.{both, fst_off, snd_off}
-
-pub cond_true : {X : Type 0} (b : Bool) (x y : X) → b ≡ true → cond b x y ≡ x
-cond_true b x y e = rw e
-
-pub cond_false : {X : Type 0} (b : Bool) (x y : X) → b ≡ false → cond b x y ≡ y
-cond_false b x y e = rw e
+use Rattle.rack.proofs.Lists.{Lists}
 
 -- the least that passes, told by what passes
 pub least_some : (p : ℕ → Bool) (k n j : ℕ) → k ≤ j → j < k + n → p j ≡ true → ((i : ℕ) → k ≤ i → i < j → p i ≡ false) → least p k n ≡ Some j
 least_some p k zero j low high here before = absurd (omega arith)
 least_some p k (suc n) j low high here before =
     ⊎_elim
-    (λ (e : k ≡ j). cond_true (p k) _ _ (ap p e ∙ here) ∙ ap Some e)
+    (λ (e : k ≡ j). cond-true (p k) _ _ (ap p e ∙ here) ∙ ap Some e)
     (λ (ne : k ≡ j → ⊥).
-    cond_false (p k) _ _ (before k (omega arith) (omega arith)) ∙ least_some p (k + 1) n j (omega arith) (omega arith) here (λ i l u. before i (omega arith) u))
+    cond-false (p k) _ _ (before k (omega arith) (omega arith)) ∙ least_some p (k + 1) n j (omega arith) (omega arith) here (λ i l u. before i (omega arith) u))
     (cases_eq k j)
 
 pub least_none : (p : ℕ → Bool) (k n : ℕ) → ((i : ℕ) → k ≤ i → i < k + n → p i ≡ false) → least p k n ≡ None
 least_none p k zero h = refl
-least_none p k (suc n) h = cond_false (p k) _ _ (h k (omega arith) (omega arith)) ∙ least_none p (k + 1) n (λ i l u. h i (omega arith) (omega arith))
+least_none p k (suc n) h = cond-false (p k) _ _ (h k (omega arith) (omega arith)) ∙ least_none p (k + 1) n (λ i l u. h i (omega arith) (omega arith))
 
 -- the head of channel c is nearer to v than that by one
 abbrev pub Nearer : Rack → List ℕ → ℕ → ℕ → Channel → Type 0
@@ -35,21 +28,21 @@ Nearer r table v distance c = (c.0 < channel_count r) × (told r table (head r c
 
 module _ (r : Rack) (table : List ℕ) (w v : ℕ) where
   pub nearer_yes : (d : ℕ) → tail r d ≡ w → told r table (head r d) v + 1 ≡ told r table w v → one_nearer r table w v d ≡ true
-  nearer_yes d e n = both _ _ (eq-eqb (tail r d) w e) (eq-eqb (told r table (head r d) v + 1) (told r table w v) n)
+  nearer_yes d e n = and_from _ _ (eq-eqb (tail r d) w e) (eq-eqb (told r table (head r d) v + 1) (told r table w v) n)
 
   pub nearer_not : (d : ℕ) → (told r table (head r d) v + 1 ≡ told r table w v → ⊥) → one_nearer r table w v d ≡ false
-  nearer_not d n = snd_off (eqb (tail r d) w) _ (ne_eqb (told r table (head r d) v + 1) (told r table w v) n)
+  nearer_not d n = and_right (eqb (tail r d) w) _ (ne_eqb (told r table (head r d) v + 1) (told r table w v) n)
 
   -- a channel that leaves the switch, unless it leads nearer, is passed over
   nearer_off : (d : ℕ) → (Leaving r w d → told r table (head r d) v + 1 ≡ told r table w v → ⊥) → d < channel_count r → one_nearer r table w v d ≡ false
   nearer_off d off low =
       ⊎_elim
       (λ (e : tail r d ≡ w). nearer_not d (off (low, e)))
-      (λ (ne : tail r d ≡ w → ⊥). fst_off _ _ (ne_eqb (tail r d) w ne))
+      (λ (ne : tail r d ≡ w → ⊥). and_left _ _ (ne_eqb (tail r d) w ne))
       (cases_eq (tail r d) w)
 
   -- the first channel of the switch's list that leads nearer is the least
-  module _ (list : List Channel) (all : Leavers r w list) (distance : ℕ) (is : distance ≡ told r table w v) where
+  module _ (list : List Channel) (all : Lists (Leaving r w) list) (distance : ℕ) (is : distance ≡ told r table w v) where
     pub nearest :
         (o : Option Channel) →
         MatchOption o (AllWithin (λ c. Nearer r table v distance c → ⊥) list 0 (length list)) (λ c. Nearer r table v distance c × (i : ℕ) × (i < length list) × HoldsAt (λ d. d ≡ c) list i × AllWithin (λ d. Nearer r table v distance d → ⊥) list 0 i) →

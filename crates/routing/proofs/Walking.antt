@@ -2,6 +2,7 @@
 use Rattle.std.proofs.Common.{◌≡◌, ℕ, ◌+◌, ◌-◌, ◌<◌, ◌≤◌, true, false, List, [], ◌∷◌, ◌++◌, length, Some, Ok, Err, Result, sym, refl, ap, ◌∙◌, subst, ⊎_elim, arith, MatchResult}
 use Rattle.std.proofs.lemmas.List.{get_or_push, get_or_append_left, length_push}
 use Rattle.std.proofs.lemmas.Bool.{cases_lt, cases_eq}
+use Rattle.std.proofs.lemmas.Option.{same_Some}
 use Rattle.rack.specs.Racks.{channel_count, head, Leaving}
 use Rattle.routing.specs.declared.pair.Pair.{Pair}
 use Rattle.routing.specs.declared.fault.WalkFault.{WalkFault}
@@ -11,7 +12,7 @@ use Rattle.routing.specs.Sources.{enters_switch}
 use Rattle.routing.specs.Turns.{turns}
 use Rattle.routing.specs.Paths.{Routing, Hop, hop, PairOf, hop_at, OnPath}
 use Rattle.routing.specs.Walks.{hop_of, Advances, Reaches, ListsPath, Walked, Stops, WalkStops}
-use Rattle.routing.proofs.Hops.{some_same, hop_more, hop_last, hop_below, from_first}
+use Rattle.routing.proofs.Hops.{hop_more, hop_last, hop_below, from_first}
 
 -- the first i + 1 hops of the pair's path stand in the list, the last of them is `at`, and their lanes, but for the first, are below the lane count
 pub record Walking (g : Routing) (lanes : ℕ) (p : Pair) (s first i : ℕ) (at : Step) (path : List Step) : Type 0 where
@@ -70,7 +71,7 @@ module _ (g : Routing) (lanes : ℕ) (p : Pair) (s : ℕ) where
           low = λ k h a b on.
               ⊎_elim
               (λ (e : k ≡ j).
-              let same : hop_of next ≡ h = some_same _ _ (sym here ∙ from_first g p.sender.0 p.receiver.0 s first j h w.pair.0 w.leaving (subst (λ m. OnPath g p.sender.0 p.receiver.0 s m h) e on)) in
+              let same : hop_of next ≡ h = same_Some _ _ (sym here ∙ from_first g p.sender.0 p.receiver.0 s first j h w.pair.0 w.leaving (subst (λ m. OnPath g p.sender.0 p.receiver.0 s m h) e on)) in
               subst (λ (x : Hop). x.lane < lanes) same below)
               (λ (ne : k ≡ j → ⊥). w.low k h a (omega arith) on)
               (cases_eq k j);

@@ -5,6 +5,7 @@ ghost use Rattle.routing.specs.Ways.{Distances, Fewest, far, Beside, Reached, Sp
 
 use crate::fault::DistanceFault;
 use crate::pair::Pair;
+use crate::sizes::node_pairs;
 use rack::numbers::Node;
 use rack::rack::Rack;
 
@@ -12,7 +13,7 @@ use rack::rack::Rack;
 pub const NO_WAY: u8 = 255;
 
 // The column of a node in the distance table: the places of the distances to it.
-// The table itself is lent by each call, since no struct holds a `&mut` beside a fact; so that it has room is a clause there.
+// The table itself is lent by each call: in here, each method would have to say that it is still the same table, and that all else stays. So that it has room is a clause there.
 #[derive(Clone, Copy)]
 struct Column<'a> {
     rack: &'a Rack,
@@ -97,12 +98,12 @@ pub fn fill_distances(rack: &Rack, distances: &mut [u8]) -> Result<(), DistanceF
     ensures filled { node_count rack.now * node_count rack.now ≤ length distances.old → (is_ok result ≡ true) × Distances rack.now distances.new }
     ensures beyond { drop (node_count rack.now * node_count rack.now) distances.new ≡ drop (node_count rack.now * node_count rack.now) distances.old }
 {
-    let count = rack.node_count();
-    if distances.len() < count * count {
+    let places = node_pairs(rack);
+    if distances.len() < places {
         return Err(DistanceFault::Tables);
     }
-    distances[..count * count].fill(NO_WAY);
-    for v in 0..count as u16 {
+    distances[..places].fill(NO_WAY);
+    for v in 0..rack.node_count() as u16 {
         let host = Node(v);
         if rack.is_host(host) {
             Column { rack, host }.fill(distances);

@@ -80,8 +80,8 @@ impl WalkFault {
 impl<T: Drop> From<AllocFailed<T>> for WalkFault {
     ghost from_gives = { λ _ f. f ≡ Memory };
 
-    fn from(_: AllocFailed<T>) -> WalkFault {
-        WalkFault::Memory
+    fn from(_: AllocFailed<T>) -> Self {
+        Self::Memory
     }
 }
 

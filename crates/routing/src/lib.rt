@@ -10,6 +10,7 @@ pub mod one_lane;
 pub mod pair;
 pub mod plan;
 pub mod rows;
+pub mod sizes;
 pub mod source;
 pub mod stored;
 pub mod two_hop;

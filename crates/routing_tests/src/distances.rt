@@ -1,7 +1,17 @@
 // Distance tables: on the line, on a rack in two parts, and tables that are too short or longer.
-use crate::racks::{line, parted};
+use crate::racks::parted;
+use example_racks::line;
+use rack::rack::Rack;
 use routing::distances::fill_distances;
+use routing::fault::DistanceFault;
 use std::test::Fail;
+
+// The distances of a rack, in a table of as many places.
+pub fn distances_of<const N: usize>(rack: &Rack) -> Result<[u8; N], DistanceFault> {
+    let mut table = [0u8; N];
+    fill_distances(rack, &mut table)?;
+    Ok(table)
+}
 
 #[test]
 fn on_the_line(rt: HostRuntime) -> Result<(), Fail> {
@@ -44,10 +54,10 @@ fn in_two_parts(rt: HostRuntime) -> Result<(), Fail> {
 fn one_short(rt: HostRuntime) -> Result<(), Fail> {
     let rack = parted(rt.alloc())?;
     let mut table = [9u8; 15];
-    match fill_distances(&rack, &mut table) {
-        Ok(()) => return Err(Fail::new("filled")),
-        Err(fault) => assert_eq!(rt; fault.number(), 9),
-    }
+    let fault = fill_distances(&rack, &mut table)
+        .err()
+        .ok_or_else(|| Fail::new("filled"))?;
+    assert_eq!(rt; fault.number(), 9);
     assert_eq!(rt; table, [9u8; 15]);
     Ok(())
 }

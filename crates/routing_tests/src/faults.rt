@@ -1,10 +1,11 @@
 // What is wrong with a path: each refusal, with its pair and its hop.
 ghost use Rattle.std.specs.Prelude.{Some as There};
 
-use crate::racks::{clockwise, parted, triangle};
-use crate::walks::check_stops;
+use crate::distances::distances_of;
+use crate::racks::parted;
+use crate::walks::{check_stops, plan_of};
+use example_racks::{CLOCKWISE, triangle};
 use rack::numbers::{Channel, Node};
-use routing::distances::fill_distances;
 use routing::downhill::Downhill;
 use routing::one_lane::OneLane;
 use routing::pair::Pair;
@@ -35,31 +36,13 @@ fn elsewhere(rt: HostRuntime) -> Result<(), Fail> {
     let rack = triangle(heap)?;
     for channel in [10u16, 0, 12, 65535] {
         let source = Always { channel };
-        check_stops(
-            &rt,
-            heap,
-            &rack,
-            &source,
-            &OneLane,
-            8,
-            Pair::of(0, 2),
-            21,
-            1,
-        )?;
+        let plan = plan_of(&rack, &source, &OneLane, 8);
+        check_stops(&rt, heap, &plan, Pair::of(0, 2), 21, 1)?;
     }
     // the first turn is one, and the second is not
     let source = Always { channel: 6 };
-    check_stops(
-        &rt,
-        heap,
-        &rack,
-        &source,
-        &OneLane,
-        8,
-        Pair::of(0, 2),
-        21,
-        2,
-    )
+    let plan = plan_of(&rack, &source, &OneLane, 8);
+    check_stops(&rt, heap, &plan, Pair::of(0, 2), 21, 2)
 }
 
 // The table has another entry at the place.
@@ -72,7 +55,7 @@ fn check_changed(
 ) -> Result<(), Fail> {
     let heap = rt.alloc();
     let rack = triangle(heap)?;
-    let mut forwarding = clockwise();
+    let mut forwarding = CLOCKWISE;
     if place < 36 {
         forwarding[place] = entry;
     }
@@ -80,17 +63,8 @@ fn check_changed(
         rack: &rack,
         forwarding: &forwarding,
     };
-    check_stops(
-        rt,
-        heap,
-        &rack,
-        &source,
-        &OneLane,
-        1,
-        Pair::of(0, 2),
-        number,
-        hop,
-    )
+    let plan = plan_of(&rack, &source, &OneLane, 1);
+    check_stops(rt, heap, &plan, Pair::of(0, 2), number, hop)
 }
 
 #[test]
@@ -114,23 +88,14 @@ fn stored(rt: HostRuntime) -> Result<(), Fail> {
 fn no_pair(rt: HostRuntime) -> Result<(), Fail> {
     let heap = rt.alloc();
     let rack = triangle(heap)?;
-    let forwarding = clockwise();
+    let forwarding = CLOCKWISE;
     let source = Stored {
         rack: &rack,
         forwarding: &forwarding,
     };
+    let plan = plan_of(&rack, &source, &OneLane, 1);
     for (sender, receiver) in [(1u16, 1u16), (3, 0), (0, 3), (0, 6), (65535, 0)] {
-        check_stops(
-            &rt,
-            heap,
-            &rack,
-            &source,
-            &OneLane,
-            1,
-            Pair::of(sender, receiver),
-            30,
-            0,
-        )?;
+        check_stops(&rt, heap, &plan, Pair::of(sender, receiver), 30, 0)?;
     }
     Ok(())
 }
@@ -140,13 +105,14 @@ fn no_pair(rt: HostRuntime) -> Result<(), Fail> {
 fn lane(rt: HostRuntime) -> Result<(), Fail> {
     let heap = rt.alloc();
     let rack = triangle(heap)?;
-    let forwarding = clockwise();
+    let forwarding = CLOCKWISE;
     let source = Stored {
         rack: &rack,
         forwarding: &forwarding,
     };
     let map = TwoHop { rack: &rack };
-    check_stops(&rt, heap, &rack, &source, &map, 1, Pair::of(0, 1), 24, 2)
+    let plan = plan_of(&rack, &source, &map, 1);
+    check_stops(&rt, heap, &plan, Pair::of(0, 1), 24, 2)
 }
 
 // Where there is no way, the downhill source names no channel.
@@ -154,21 +120,11 @@ fn lane(rt: HostRuntime) -> Result<(), Fail> {
 fn no_way(rt: HostRuntime) -> Result<(), Fail> {
     let heap = rt.alloc();
     let rack = parted(heap)?;
-    let mut table = [0u8; 16];
-    fill_distances(&rack, &mut table)?;
+    let table: [u8; 16] = distances_of(&rack)?;
     let source = Downhill {
         rack: &rack,
         distances: &table,
     };
-    check_stops(
-        &rt,
-        heap,
-        &rack,
-        &source,
-        &OneLane,
-        1,
-        Pair::of(0, 1),
-        20,
-        1,
-    )
+    let plan = plan_of(&rack, &source, &OneLane, 1);
+    check_stops(&rt, heap, &plan, Pair::of(0, 1), 20, 1)
 }

@@ -62,9 +62,7 @@ fn no_turn(rt: HostRuntime) -> Result<(), Fail> {
 #[test]
 fn one_byte(rt: HostRuntime) -> Result<(), Fail> {
     let mut lanes = [9u8; 2304];
-    let Some(row) = Row::take(&lanes[LAST..]) else {
-        return Err(Fail::new("no row"));
-    };
+    let row = Row::take(&lanes[LAST..]).ok_or_else(|| Fail::new("no row"))?;
     let put = row.with(level(15)?, Lane::one()).put(&mut lanes[LAST..]);
     assert!(rt; put.is_some());
     for (k, byte) in lanes.iter().enumerate() {

@@ -1,7 +1,8 @@
 // Paths by a stored source and by a downhill one.
-use crate::racks::{clockwise, line, triangle, twin};
-use crate::walks::check_walks;
-use routing::distances::fill_distances;
+use crate::distances::distances_of;
+use crate::racks::twin;
+use crate::walks::{check_walks, plan_of};
+use example_racks::{CLOCKWISE, line, triangle};
 use routing::downhill::Downhill;
 use routing::one_lane::OneLane;
 use routing::pair::Pair;
@@ -13,28 +14,23 @@ use std::test::Fail;
 fn stored_clockwise(rt: HostRuntime) -> Result<(), Fail> {
     let heap = rt.alloc();
     let rack = triangle(heap)?;
-    let forwarding = clockwise();
+    let forwarding = CLOCKWISE;
     let source = Stored {
         rack: &rack,
         forwarding: &forwarding,
     };
+    let plan = plan_of(&rack, &source, &OneLane, 1);
     check_walks(
         &rt,
         heap,
-        &rack,
-        &source,
-        &OneLane,
-        1,
+        &plan,
         Pair::of(0, 2),
         &[(0, 0), (6, 0), (8, 0), (5, 0)],
     )?;
     check_walks(
         &rt,
         heap,
-        &rack,
-        &source,
-        &OneLane,
-        1,
+        &plan,
         Pair::of(1, 0),
         &[(2, 0), (8, 0), (10, 0), (1, 0)],
     )
@@ -45,19 +41,17 @@ fn stored_clockwise(rt: HostRuntime) -> Result<(), Fail> {
 fn two_hop_clockwise(rt: HostRuntime) -> Result<(), Fail> {
     let heap = rt.alloc();
     let rack = triangle(heap)?;
-    let forwarding = clockwise();
+    let forwarding = CLOCKWISE;
     let source = Stored {
         rack: &rack,
         forwarding: &forwarding,
     };
     let map = TwoHop { rack: &rack };
+    let plan = plan_of(&rack, &source, &map, 2);
     check_walks(
         &rt,
         heap,
-        &rack,
-        &source,
-        &map,
-        2,
+        &plan,
         Pair::of(0, 2),
         &[(0, 0), (6, 0), (8, 1), (5, 1)],
     )
@@ -67,51 +61,36 @@ fn two_hop_clockwise(rt: HostRuntime) -> Result<(), Fail> {
 fn downhill_triangle(rt: HostRuntime) -> Result<(), Fail> {
     let heap = rt.alloc();
     let rack = triangle(heap)?;
-    let mut table = [0u8; 36];
-    fill_distances(&rack, &mut table)?;
+    let table: [u8; 36] = distances_of(&rack)?;
     let source = Downhill {
         rack: &rack,
         distances: &table,
     };
-    check_walks(
-        &rt,
-        heap,
-        &rack,
-        &source,
-        &OneLane,
-        1,
-        Pair::of(0, 2),
-        &[(0, 0), (11, 0), (5, 0)],
-    )
+    let plan = plan_of(&rack, &source, &OneLane, 1);
+    check_walks(&rt, heap, &plan, Pair::of(0, 2), &[(0, 0), (11, 0), (5, 0)])
 }
 
 #[test]
 fn downhill_line(rt: HostRuntime) -> Result<(), Fail> {
     let heap = rt.alloc();
     let rack = line(heap)?;
-    let mut table = [0u8; 64];
-    fill_distances(&rack, &mut table)?;
+    let table: [u8; 64] = distances_of(&rack)?;
     let source = Downhill {
         rack: &rack,
         distances: &table,
     };
+    let plan = plan_of(&rack, &source, &OneLane, 1);
     check_walks(
         &rt,
         heap,
-        &rack,
-        &source,
-        &OneLane,
-        1,
+        &plan,
         Pair::of(0, 3),
         &[(0, 0), (8, 0), (10, 0), (12, 0), (7, 0)],
     )?;
     check_walks(
         &rt,
         heap,
-        &rack,
-        &source,
-        &OneLane,
-        1,
+        &plan,
         Pair::of(3, 0),
         &[(6, 0), (13, 0), (11, 0), (9, 0), (1, 0)],
     )
@@ -122,30 +101,12 @@ fn downhill_line(rt: HostRuntime) -> Result<(), Fail> {
 fn downhill_lowest(rt: HostRuntime) -> Result<(), Fail> {
     let heap = rt.alloc();
     let rack = twin(heap)?;
-    let mut table = [0u8; 16];
-    fill_distances(&rack, &mut table)?;
+    let table: [u8; 16] = distances_of(&rack)?;
     let source = Downhill {
         rack: &rack,
         distances: &table,
     };
-    check_walks(
-        &rt,
-        heap,
-        &rack,
-        &source,
-        &OneLane,
-        1,
-        Pair::of(0, 1),
-        &[(0, 0), (4, 0), (3, 0)],
-    )?;
-    check_walks(
-        &rt,
-        heap,
-        &rack,
-        &source,
-        &OneLane,
-        1,
-        Pair::of(1, 0),
-        &[(2, 0), (5, 0), (1, 0)],
-    )
+    let plan = plan_of(&rack, &source, &OneLane, 1);
+    check_walks(&rt, heap, &plan, Pair::of(0, 1), &[(0, 0), (4, 0), (3, 0)])?;
+    check_walks(&rt, heap, &plan, Pair::of(1, 0), &[(2, 0), (5, 0), (1, 0)])
 }

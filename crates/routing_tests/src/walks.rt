@@ -11,34 +11,30 @@ use std::process::Abort;
 use std::test::Fail;
 
 pub fn level(number: u8) -> Result<Level, Fail> {
-    match Level::new(number) {
-        Some(level) => Ok(level),
-        None => Err(Fail::new("no level")),
-    }
+    Level::new(number).ok_or_else(|| Fail::new("no level"))
 }
 
-// With as many lanes, the path has these channels, on these lanes.
-pub fn check_walks<'x, S: ForwardingSource, M: LaneMap>(
-    rt: &impl Abort,
-    heap: Global,
-    rack: &'x Rack,
-    source: &'x S,
-    map: &'x M,
-    lanes: u8,
-    pair: Pair,
-    want: &[(u16, u8)],
-) -> Result<(), Fail> {
-    let plan = Plan {
+// A plan with as many lanes, and no path table.
+pub fn plan_of<'x, S, M>(rack: &'x Rack, source: &'x S, map: &'x M, lanes: u8) -> Plan<'x, S, M> {
+    Plan {
         rack,
         source,
         map,
         levels: &[],
         lanes,
-    };
-    let mut path = Vec::new(heap);
-    if walk(&plan, pair, level(0)?, &mut path).is_err() {
-        return Err(Fail::new("refused"));
     }
+}
+
+// The path has these channels, on these lanes.
+pub fn check_walks<S: ForwardingSource, M: LaneMap>(
+    rt: &impl Abort,
+    heap: Global,
+    plan: &Plan<'_, S, M>,
+    pair: Pair,
+    want: &[(u16, u8)],
+) -> Result<(), Fail> {
+    let mut path = Vec::new(heap);
+    walk(plan, pair, level(0)?, &mut path)?;
     assert_eq!(rt; path.len(), want.len());
     for (step, (channel, lane)) in path.iter().zip(want) {
         assert_eq!(rt; step.channel.0, *channel);
@@ -47,33 +43,21 @@ pub fn check_walks<'x, S: ForwardingSource, M: LaneMap>(
     Ok(())
 }
 
-// With as many lanes, the path is refused with the number, for the pair and the hop.
-pub fn check_stops<'x, S: ForwardingSource, M: LaneMap>(
+// The path is refused with the number, for the pair and the hop.
+pub fn check_stops<S: ForwardingSource, M: LaneMap>(
     rt: &impl Abort,
     heap: Global,
-    rack: &'x Rack,
-    source: &'x S,
-    map: &'x M,
-    lanes: u8,
+    plan: &Plan<'_, S, M>,
     pair: Pair,
     number: u8,
     hop: u16,
 ) -> Result<(), Fail> {
-    let plan = Plan {
-        rack,
-        source,
-        map,
-        levels: &[],
-        lanes,
-    };
     let mut path = Vec::new(heap);
-    match walk(&plan, pair, level(0)?, &mut path) {
-        Ok(()) => Err(Fail::new("walked")),
-        Err(fault) => {
-            assert_eq!(rt; fault.number(), Some(number));
-            assert_eq!(rt; fault.pair(), Some(pair));
-            assert_eq!(rt; fault.hop(), hop);
-            Ok(())
-        }
-    }
+    let fault = walk(plan, pair, level(0)?, &mut path)
+        .err()
+        .ok_or_else(|| Fail::new("walked"))?;
+    assert_eq!(rt; fault.number(), Some(number));
+    assert_eq!(rt; fault.pair(), Some(pair));
+    assert_eq!(rt; fault.hop(), hop);
+    Ok(())
 }

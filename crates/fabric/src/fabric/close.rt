@@ -4,13 +4,14 @@ ghost use Rattle.rack.specs.Racks.{channel_count};
 ghost use Rattle.fabric.specs.Calls.{CanStart, CannotStart, waiting_count};
 
 use crate::fabric::Fabric;
-use crate::fabric::given::{queue_count, ready};
+use crate::fabric::given::ready;
 use crate::fault::FabricFault;
 use crate::queue::Queue;
 use rack::rack::Rack;
 use routing::plan::Plan;
+use routing::sizes::virtual_channels;
 
-// A fabric was not closed: why, and the fabric back.
+// A fabric was not closed: why, and the fabric back. Not one type with `NotOpened`: the field says what comes back.
 #[derive(Drop)]
 pub struct NotClosed {
     pub fault: FabricFault,
@@ -24,7 +25,7 @@ fn count_all(rack: &Rack, queues: &[Queue]) -> usize
     ensures { result ≡ waiting_count rack.now queues.now }
 {
     let mut count = 0;
-    for queue in &queues[..queue_count(rack)] {
+    for queue in &queues[..virtual_channels(rack)] {
         count += queue.count();
     }
     count

@@ -1,27 +1,19 @@
 // What every call on a fabric asks first.
-ghost use Rattle.std.specs.Prelude.{◌≡◌, ◌*◌, ◌≤◌, Decides, MatchResult};
-ghost use Rattle.rack.specs.Racks.{channel_count};
+ghost use Rattle.std.specs.Prelude.{◌≡◌, ◌≤◌, Decides, MatchResult};
 ghost use Rattle.checking.specs.Starts.{Ranged};
 ghost use Rattle.fabric.specs.Calls.{CanStart, CannotStart};
 
 use crate::fabric::Fabric;
 use crate::fault::FabricFault;
 use rack::numbers::Channel;
-use rack::rack::Rack;
 use routing::plan::Plan;
+use routing::sizes::{node_pairs, virtual_channels};
 
 // Whether a lane count or a depth is in range.
 pub(crate) fn is_ranged(count: u8) -> bool
     ensures { Decides result (Ranged count) }
 {
-    1 <= count && count <= 8
-}
-
-// How many queues a rack has: one for each virtual channel.
-pub(crate) fn queue_count(rack: &Rack) -> usize
-    ensures { result ≡ 8 * channel_count rack.now }
-{
-    8 * rack.channel_count()
+    (1..=8).contains(&count)
 }
 
 // Whether the lane count is in range, and the path table and the queues have the places needed.
@@ -31,8 +23,7 @@ pub(crate) fn ready<S, M>(plan: &Plan<'_, S, M>, queues: usize) -> Result<(), Fa
     if !is_ranged(plan.lanes) {
         return Err(FabricFault::Lanes);
     }
-    let nodes = plan.rack.node_count();
-    if plan.levels.len() < nodes * nodes || queues < queue_count(plan.rack) {
+    if plan.levels.len() < node_pairs(plan.rack) || queues < virtual_channels(plan.rack) {
         return Err(FabricFault::Tables);
     }
     Ok(())

@@ -5,14 +5,15 @@ ghost use Rattle.checking.specs.Starts.{Ranged};
 ghost use Rattle.fabric.specs.Calls.{CanStart, CannotOpen, Emptied};
 
 use crate::fabric::Fabric;
-use crate::fabric::given::{is_ranged, queue_count, ready};
+use crate::fabric::given::{is_ranged, ready};
 use crate::fault::FabricFault;
 use crate::queue::Queue;
 use checking::acceptance::Acceptance;
 use rack::rack::Rack;
 use routing::plan::Plan;
+use routing::sizes::virtual_channels;
 
-// A fabric was not opened: why, and the acceptance back.
+// A fabric was not opened: why, and the acceptance back. Not one type with `NotClosed`: the field says what comes back.
 #[derive(Drop)]
 pub struct NotOpened {
     pub fault: FabricFault,
@@ -24,7 +25,7 @@ fn empty_all(rack: &Rack, queues: &mut [Queue])
     requires { 8 * channel_count rack.now ≤ length queues.old }
     ensures { Emptied rack.now queues.old queues.new }
 {
-    queues[..queue_count(rack)].fill(Queue::empty());
+    queues[..virtual_channels(rack)].fill(Queue::empty());
 }
 
 // Opens a fabric whose queues hold so many packets each: spends the acceptance and empties the queues of the rack.

@@ -5,7 +5,7 @@ ghost use Rattle.courses.specs.Queues.{at};
 ghost use Rattle.fabric.specs.Calls.{setup_of, Admits, AdmitRefused, First, NoneFirst, Takes, TakeRefused, Entrance, NoEntrance};
 
 use crate::fabric::Fabric;
-use crate::fabric::given::{queue_count, ready};
+use crate::fabric::given::ready;
 use crate::fault::FabricFault;
 use crate::packet::{Delivery, Packet, VirtualChannel};
 use crate::queue::Queue;
@@ -15,6 +15,7 @@ use rack::rack::Rack;
 use routing::map::LaneMap;
 use routing::pair::Pair;
 use routing::plan::{Plan, level_of};
+use routing::sizes::virtual_channels;
 use routing::source::ForwardingSource;
 
 // The channel on which the packets of a pair begin, and their level.
@@ -25,10 +26,8 @@ fn entrance<S, M>(plan: &Plan<'_, S, M>, pair: Pair) -> Result<(Channel, Level),
         Some(channel) if pair.joins_hosts(plan.rack) => channel,
         _ => return Err(FabricFault::NoPair { pair }),
     };
-    match level_of(plan.rack, plan.levels, pair) {
-        Some(level) => Ok((channel, level)),
-        None => Err(FabricFault::Level { pair }),
-    }
+    let level = level_of(plan.rack, plan.levels, pair).ok_or(FabricFault::Level { pair })?;
+    Ok((channel, level))
 }
 
 // Whether a channel enters a node.
@@ -51,13 +50,10 @@ impl Fabric {
         ensures { MatchResult result (λ p. First (setup_of S.route M.lanes plan.now self.now.depth) queues.now from.0 p (drop 1 (at queues.now from.0))) (NoneFirst (setup_of S.route M.lanes plan.now self.now.depth) queues.now from.0) }
     {
         ready(plan, queues.len())?;
-        if from.place() >= queue_count(plan.rack) {
+        if from.place() >= virtual_channels(plan.rack) {
             return Err(FabricFault::NoQueue);
         }
-        match queues[from.place()].first() {
-            Some(packet) => Ok(packet),
-            None => Err(FabricFault::Empty),
-        }
+        queues[from.place()].first().ok_or(FabricFault::Empty)
     }
 
     // Puts a packet of the pair last in lane 0 of the channel out of its sender.
@@ -104,6 +100,6 @@ impl Fabric {
             return Err(packet.misplaced());
         }
         pop_at(queues, from);
-        Ok(packet.delivery())
+        Ok(packet.into())
     }
 }

@@ -59,12 +59,8 @@ impl Rack {
     pub fn switch_entered(&self, channel: Channel) -> Option<Node>
         ensures { MatchOption result ((w : ℕ) → EntersSwitch self.now channel.0 w → ⊥) (λ w. EntersSwitch self.now channel.0 w.0) }
     {
-        let ends = self.ends(channel)?;
-        if self.is_switch(ends.head.node) {
-            Some(ends.head.node)
-        } else {
-            None
-        }
+        let node = self.ends(channel)?.head.node;
+        self.is_switch(node).then_some(node)
     }
 
     // The channels that leave the node, in ascending order; none leaves what is no node.

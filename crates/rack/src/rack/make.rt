@@ -1,11 +1,11 @@
 // Makes a rack from tables that keep the rules.
 ghost use Rattle.std.specs.Prelude.{◌≡◌, ℕ, ◌<◌, [], length, IfOk, Decides, MatchResult, ◌≢◌, slice_index_or};
-ghost use Rattle.rack.specs.Network.{none, FreeEnd, KeepsRules, KnownKinds, AllJoin, Apart};
+ghost use Rattle.rack.specs.Network.{none, KeepsRules, KnownKinds, AllJoin, Apart};
 ghost use Rattle.rack.specs.Index.{list_of, Listed};
 ghost use Rattle.rack.specs.Racks.{nodes_of, cables_of, Refuses};
 
 use crate::cable::Cable;
-use crate::ends::{cable_at, joins_ports, lonely_host};
+use crate::ends::{is_free, joins_ports, lonely_host};
 use crate::fault::RackFault;
 use crate::kind::Kind;
 use crate::numbers::Channel;
@@ -24,13 +24,6 @@ fn all_join(nodes: &[u8], cables: &[Cable]) -> bool
     ensures { Decides result (AllJoin nodes.now cables.now) }
 {
     cables.iter().all(|cable| joins_ports(nodes, *cable))
-}
-
-// Whether none of the cables ends where the cable does.
-fn is_free(cables: &[Cable], cable: Cable) -> bool
-    ensures { Decides result (FreeEnd cables.now cable.first × FreeEnd cables.now cable.second) }
-{
-    cable_at(cables, cable.first).is_none() && cable_at(cables, cable.second).is_none()
 }
 
 // Whether no two cables, each between two different nodes, end at one port.
@@ -64,12 +57,7 @@ fn no_channels(heap: Global, nodes: usize) -> Result<Vec<Vec<Channel>>, AllocErr
     ensures long { IfOk result (λ lists. length lists.items ≡ nodes) }
     ensures empty { IfOk result (λ lists. (v : ℕ) → list_of lists.items v ≡ []) }
 {
-    let mut lists = Vec::new(heap);
-    // a loop, since each list may fail to find memory
-    for _ in 0..nodes {
-        lists.push(Vec::new(heap))?;
-    }
-    Ok(lists)
+    (0..nodes).map(|_| Vec::new(heap)).collect(heap)
 }
 
 // For each node the channels that leave it: each channel goes to the end of its tail's list.
@@ -82,7 +70,7 @@ fn list_channels(
     ensures { IfOk result (λ lists. Listed nodes.now cables.now lists.items) }
 {
     let mut lists = no_channels(heap, nodes.len())?;
-    // over numbers: there is no list of the channels before this one
+    // over numbers: what is listed so far is said channel by channel, two for each cable
     for number in 0..2 * cables.len() {
         let channel = Channel(number as u16);
         let tail = cables[number / 2].ends(channel).tail;

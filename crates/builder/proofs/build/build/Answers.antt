@@ -1,7 +1,6 @@
-use Rattle.std.proofs.Common.{◌≡◌, ℕ, ◌*◌, Ok, Err, Option, Result, OnOk, arith}
+use Rattle.std.proofs.Common.{ℕ, Ok, Err, Option, Result, OnOk, arith}
 use Rattle.std.proofs.lemmas.Grind.{common_steps}
 use Rattle.rack.specs.declared.rack.Rack.{Rack}
-use Rattle.rack.specs.Racks.{node_count}
 use Rattle.builder.specs.declared.fault.BuildFault.{BuildFault}
 use Rattle.builder.specs.Method.{Tables, tables}
 use Rattle.builder.specs.Laws.{Rises, EndsKeep0}
@@ -21,5 +20,4 @@ returns-clause-plan g c =
     let r = c.args.rack.now in
     let now = tables c.if-is_err.lanes c.if-is_err.levels in
     let told : Outcome r (g.S.ForwardingSource.route c.args.source.now) c.args.lane_count (tables c.args.lanes.now c.args.levels.now) now c.all-built.result = grind (arith, common_steps) in
-    let pairs : c.node_count.result * c.node_count-2.result ≡ node_count r * node_count r = rw (c.node_count.ensures.0, c.node_count-2.ensures.0) in
-    planned r _ _ _ now c.all-built.result (omega (arith, c.channel_count.ensures.0), omega (arith, pairs)) told
+    planned r _ _ _ now c.all-built.result (omega (arith, c.lane_bytes-rows.ensures), omega (arith, c.node_pairs-pairs.ensures)) told

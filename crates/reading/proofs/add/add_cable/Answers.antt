@@ -1,40 +1,23 @@
-use Rattle.std.proofs.Common.{◌-◌, sym, refl, ◌∙◌, subst, inl, inr, arith}
+use Rattle.std.proofs.Common.{sym, refl, subst, inl, inr, arith}
+use Rattle.std.proofs.lemmas.Bool.Decides.{not_from_Decides}
 use Rattle.std.proofs.lemmas.List.{length_push}
 use Rattle.rack.specs.Network.{none, FreeEnd}
 use Rattle.rack.proofs.ShownTables.{shows_push, shows_front, joins_alike}
-use Rattle.reading.proofs.TailEnds.{found_taken, found_free}
 use Rattle.reading.proofs.add.add_cable.Goals as goal
-use Rattle.reading.proofs.add.add_cable.Goals.{then-is_some-via-then-is_some, then-is_some-via-else-is_some+then-is_some-2}
 
-pub returns-then-is_some : goal.returns-then-is_some
-returns-then-is_some c = λ net forwarding s.
-    let front = shows_front net.cables c.args.cables.now none (c.args.counts.cables - 0) (omega arith) (omega arith) s.cable in
+pub returns-then-not-is_free : goal.returns-then-not-is_free
+returns-then-not-is_free c = λ net forwarding s.
+    let front = shows_front net.cables c.args.cables.now none c.args.counts.cables (omega arith) (omega arith) s.cable in
     let right = joins_alike _ net.nodes _ s.node (c.joins_ports.ensures.0 c.if-not-joins_ports.false) in
-    inr (
-      omega arith,
-      inr (
-        omega arith,
-        inr (
-          right,
-          inl (
-            refl,
-            λ free.
-                elim c.then-is_some.branch [
-                  | then-is_some-via-then-is_some w ↦ found_taken _ _ _ c.cable_at.ensures (sym c.is_some.ensures ∙ w.if-is_some.true) (subst (λ l. FreeEnd l c.args.cable.first) (sym front) free.0)
-                  | then-is_some-via-else-is_some+then-is_some-2 w ↦ found_taken _ _ _ w.cable_at-else-is_some.ensures (sym w.is_some-else-is_some.ensures ∙ w.if-is_some-2.true) (subst (λ l. FreeEnd l c.args.cable.second) (sym front) free.1)
-                ],
-          ),
-        ),
-      ),
-    )
+    let taken = not_from_Decides _ c.is_free.ensures c.if-not-is_free.true in
+    inr (omega arith, inr (omega arith, inr (right, inl (refl, λ free. taken (subst (λ l. FreeEnd l c.args.cable.first × FreeEnd l c.args.cable.second) (sym front) free)))))
 
 pub returns : goal.returns
 returns c = λ net forwarding s.
-    let front = shows_front net.cables c.args.cables.now none (c.args.counts.cables - 0) (omega arith) (omega arith) s.cable in
+    let front = shows_front net.cables c.args.cables.now none c.args.counts.cables (omega arith) (omega arith) s.cable in
     let right = joins_alike _ net.nodes _ s.node (c.joins_ports.ensures.0 c.if-not-joins_ports.false) in
-    let first = subst (λ l. FreeEnd l c.args.cable.first) front (found_free _ _ _ c.cable_at.ensures (sym c.is_some.ensures ∙ c.if-is_some.false)) in
-    let second = subst (λ l. FreeEnd l c.args.cable.second) front (found_free _ _ _ c.cable_at-else-is_some.ensures (sym c.is_some-else-is_some.ensures ∙ c.if-is_some-2.false)) in (
-      (omega arith, (omega arith, (right, ((first, second), tt)))),
+    let free = subst (λ l. FreeEnd l c.args.cable.first × FreeEnd l c.args.cable.second) front (c.is_free.ensures.0 c.if-not-is_free.false) in (
+      (omega arith, (omega arith, (right, (free, tt)))),
       record {
         node_count = s.node_count;
         cable_count = rw length_push (omega arith);

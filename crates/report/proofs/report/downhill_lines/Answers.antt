@@ -13,9 +13,8 @@ returns c =
     let v = c.in_ok-distances.distances in
     let last = c.fill_distances.new.distances in
     let now = c.deref.result.now in
-    let same : now ≡ last = written now last v.items v.len (omega arith) c.deref.ensures.value in
-    let pairs : c.node_count-nodes.result * c.node_count-nodes.result ≡ node_count r * node_count r = ap (λ n. n * n) c.node_count-nodes.ensures.0 in
-    let long : node_count r * node_count r ≤ length c.deref_mut.result.now = omega (arith, pairs, c.in_ok-distances.ensures.len, c.deref_mut.ensures.len) in
+    let same : now ≡ last = written v.items c.deref.ensures.value (omega arith) in
+    let long : node_count r * node_count r ≤ length c.deref_mut.result.now = omega (arith, c.node_pairs.ensures, c.in_ok-distances.ensures.len, c.deref_mut.ensures.len) in
     let route = downhill_route r now in
     let downhill : DownhillRouted r route = (now, omega (arith, ap length same, long, c.fill_distances.auto.distances), subst (Distances r) (sym same) (c.fill_distances.ensures.filled long).1, refl) in
     MatchResult-weaker c.source_lines.result c.source_lines.ensures (λ s t. (route, downhill, t)) (λ f l. lack_from r route (DownhillRouted r) f downhill l)

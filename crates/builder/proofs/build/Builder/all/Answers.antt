@@ -1,4 +1,4 @@
-use Rattle.std.proofs.Common.{arith}
+use Rattle.std.proofs.Common.{◌∙◌, arith}
 use Rattle.std.proofs.lemmas.Result.{err_from_is_err_and}
 use Rattle.builder.specs.Method.{tables}
 use Rattle.builder.proofs.Taking.{blank_long, senders_more}
@@ -6,11 +6,8 @@ use Rattle.builder.proofs.build.Builder.all.Goals as goal
 
 pub sender-requires : goal.sender-requires
 sender-requires g c =
-    let long = blank_long c.args.self.now.rack.now (tables c.args.lanes.now c.args.levels.now) c.requires.zeros in
-    record {
-      long = (omega (arith, long.0), omega (arith, long.1));
-      room = c.loop-u.invariant.1;
-    }
+    let long = blank_long c.args.self.now.given.now.rack.now (tables c.args.lanes.now c.args.levels.now) c.requires in
+    rw c.loop-u.invariant.0 (omega (arith, long.0), omega (arith, long.1))
 
 pub returns-in_err-sender : goal.returns-in_err-sender
 returns-in_err-sender g c =
@@ -19,12 +16,13 @@ returns-in_err-sender g c =
     (record {
       sender = c.loop-u.u;
       there = tables c.loop-u.lanes c.loop-u.levels;
-      before = c.loop-u.invariant.0;
-      row = c.in_err-sender.ensures.answer;
+      before = c.loop-u.invariant.1;
+      row = rw c.loop-u.invariant.0 at c.in_err-sender.ensures.answer;
     })
 
 pub loop-u-preserved : goal.loop-u-preserved
-loop-u-preserved g c = (
-  senders_more c.args.self.now.rack.now (g.S.ForwardingSource.route c.args.self.now.source.now) c.args.self.now.lane_count c.loop-u.u _ (tables c.loop-u.lanes c.loop-u.levels) _ c.loop-u.invariant.0 c.in_ok-sender.ensures.answer,
-  c.sender.ensures.room,
-)
+loop-u-preserved g c =
+    let given = c.args.self.now.given.now in (
+      c.sender.ensures.given ∙ c.loop-u.invariant.0,
+      senders_more given.rack.now (g.S.ForwardingSource.route given.source.now) given.lane_count c.loop-u.u _ (tables c.loop-u.lanes c.loop-u.levels) _ c.loop-u.invariant.1 (rw c.loop-u.invariant.0 at c.in_ok-sender.ensures.answer),
+    )

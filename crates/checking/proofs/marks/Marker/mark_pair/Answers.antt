@@ -17,10 +17,10 @@ returns-in_err-walk-clause-fault g c =
     let plan = c.args.self.now.plan.now in
     let R = routing_of g.S.ForwardingSource.route g.M.LaneMap.lanes plan in
     let p = c.args.pair in
-    let s = c.in-Some.level.number in
-    let is : s ≡ level_at R.rack plan.levels.now p.sender.0 p.receiver.0 = c.in-Some.ensures in
-    let below = c.in-Some.level.within in
-    let q = err_from_is_err_and c.from_residual.result c.from_residual.ensures.1 in
+    let s = c.in_ok-level.level.number in
+    let is : s ≡ level_at R.rack plan.levels.now p.sender.0 p.receiver.0 = rw c.in_ok-level.ensures.ok_part at c.level_of.ensures in
+    let below = c.in_ok-level.level.within in
+    let q = err_from_is_err_and c.from_residual-in_err-walk.result c.from_residual-in_err-walk.ensures.1 in
     rw (q.1, q.2)
     (omega arith, subst (λ n. WalkStops R plan.lanes p n (channel_count R.rack) c.in_err-walk.field-0.0) is (with_room R plan.lanes p s (vec_capacity c.args.self.now.path) c.in_err-walk.field-0.0 c.args.self.now.cap c.in_err-walk.ensures.answer))
 
@@ -29,14 +29,14 @@ mark_path-requires-clause-turn g c =
     let plan = c.args.self.now.plan.now in
     let R = routing_of g.S.ForwardingSource.route g.M.LaneMap.lanes plan in
     subst (λ (xs : List Step). (i : ℕ) (d : Step) → i + 1 < length xs → turns R.rack (get_or xs i d).channel.0 (get_or xs (i + 1) d).channel.0 ≡ true) (sym c.deref.ensures.value)
-    (list_turns R plan.levels.now plan.lanes c.args.pair c.in-Some.level.number (vec_items c.walk.new.path) c.in_ok-walk.ensures.answer)
+    (list_turns R plan.levels.now plan.lanes c.args.pair c.in_ok-level.level.number (vec_items c.walk.new.path) c.in_ok-walk.ensures.answer)
 
 pub returns-clause-fine : goal.returns-clause-fine
 returns-clause-fine g c =
     let plan = c.args.self.now.plan.now in
     let R = routing_of g.S.ForwardingSource.route g.M.LaneMap.lanes plan in
-    let below = c.in-Some.level.within in
-    pair_fine R plan.levels.now plan.lanes c.args.pair c.in-Some.level.number (vec_items c.walk.new.path) c.in_ok-walk.ensures.answer c.in-Some.ensures c.args.self.now.some (omega arith)
+    let below = c.in_ok-level.level.within in
+    pair_fine R plan.levels.now plan.lanes c.args.pair c.in_ok-level.level.number (vec_items c.walk.new.path) c.in_ok-walk.ensures.answer (rw c.in_ok-level.ensures.ok_part at c.level_of.ensures) c.args.self.now.some (omega arith)
 
 pub returns-clause-marks : goal.returns-clause-marks
 returns-clause-marks g c =
@@ -46,4 +46,4 @@ returns-clause-marks g c =
     let t = c.mark_path.new.marks in
     let adds = subst (λ (xs : List Step). Adds (ListSays R.rack xs (length xs - 1)) s t) c.deref.ensures.value c.mark_path.ensures in
     adds_whole _ s t c.args.self.now.marks.items c.args.self.now.marks.len c.deref_mut.ensures.value (omega arith)
-    (pair_adds R plan.levels.now plan.lanes c.args.pair c.in-Some.level.number (vec_items c.walk.new.path) c.in_ok-walk.ensures.answer c.in-Some.ensures s t adds)
+    (pair_adds R plan.levels.now plan.lanes c.args.pair c.in_ok-level.level.number (vec_items c.walk.new.path) c.in_ok-walk.ensures.answer (rw c.in_ok-level.ensures.ok_part at c.level_of.ensures) s t adds)

@@ -1,19 +1,19 @@
-use Rattle.std.proofs.Common.{◌≡◌, sym, refl, ◌∙◌, subst, arith}
-use borrow.Author.Tests.{both_ways}
+use Rattle.std.proofs.Common.{◌≡◌, refl, ◌∙◌, subst, arith}
+use Rattle.std.proofs.lemmas.Bool.{both_ways}
 use Rattle.std.proofs.lemmas.Result.{err_from_is_err_and}
 use Rattle.rack.specs.Racks.{node_count}
 use Rattle.routing.specs.Paths.{PairOf}
 use Rattle.routing.specs.Plans.{routing_of}
 use Rattle.checking.specs.Marks.{Adds, PairSays, SenderSays}
-use Rattle.checking.proofs.Pairing.{differs, agrees, sender_skip, sender_more}
+use Rattle.checking.proofs.Pairing.{sender_skip, sender_more}
 use Rattle.checking.proofs.marks.Marker.mark_sender.Goals as goal
-use Rattle.checking.proofs.marks.Marker.mark_sender.Goals.{then-ne+then-is_host+in_ok-mark_pair, else-ne, else-ne-via-then-ne+else-is_host, else-ne-via-else-ne}
+use Rattle.checking.proofs.marks.Marker.mark_sender.Goals.{then-joins_hosts+in_ok-mark_pair, else-joins_hosts}
 
 pub returns-in_err-mark_pair-clause-fault : goal.returns-in_err-mark_pair-clause-fault
 returns-in_err-mark_pair-clause-fault g c =
     let q = err_from_is_err_and c.from_residual.result c.from_residual.ensures.1 in
     rw (q.1, q.2)
-    (record { sender = c.args.sender; receiver = record { 0 = c.loop-v.v } }, refl, (c.requires, c.is_host.ensures.0 c.if-is_host.true, differs c.loop-v.v c.args.sender.0 (sym c.ne.ensures ∙ c.if-ne.true)), c.loop-v.invariant.1, rw c.loop-v.invariant.0 at c.in_err-mark_pair.ensures.fault)
+    (record { sender = c.args.sender; receiver = record { 0 = c.loop-v.v } }, refl, c.joins_hosts.ensures.0 c.if-joins_hosts.true, c.loop-v.invariant.1, rw c.loop-v.invariant.0 at c.in_err-mark_pair.ensures.fault)
 
 pub loop-v-preserved : goal.loop-v-preserved
 loop-v-preserved g c =
@@ -23,19 +23,16 @@ loop-v-preserved g c =
     let v = c.loop-v.v in
     let s = c.args.self.now.marks.items in
     let t = c.loop-v.self.marks.items in
-    elim c.if-ne.branch [
-      | then-ne+then-is_host+in_ok-mark_pair w ↦
+    elim c.if-joins_hosts.branch [
+      | then-joins_hosts+in_ok-mark_pair w ↦
           let told = w.in_ok-mark_pair.ensures in
           let fine = rw c.loop-v.invariant.0 at told.fine in
           let marks = subst (λ q. Adds (PairSays (routing_of g.S.ForwardingSource.route g.M.LaneMap.lanes q.now) q.now.levels.now u v) t w.mark_pair.new.self.marks.items) c.loop-v.invariant.0 told.marks in
-          let pair : PairOf R.rack u v = (c.requires, w.is_host.ensures.0 w.if-is_host.true, differs v u (sym c.ne.ensures ∙ w.if-ne.true)) in
+          let pair : PairOf R.rack u v = c.joins_hosts.ensures.0 w.if-joins_hosts.true in
           let more = sender_more R plan.levels.now plan.lanes u v s t w.mark_pair.new.self.marks.items pair fine c.loop-v.invariant.1 c.loop-v.invariant.2 marks in
           (rw w.self-is (told.plan ∙ c.loop-v.invariant.0), more.0, rw w.self-is more.1)
-      | else-ne w ↦
-          let none : PairOf R.rack u v → ⊥ = elim w.else-ne.branch [
-            | else-ne-via-then-ne+else-is_host w' ↦ λ p. both_ways w'.is_host.result w'.if-is_host.false (w'.is_host.ensures.1 p.1)
-            | else-ne-via-else-ne w' ↦ λ p. p.2 (agrees v u (sym c.ne.ensures ∙ w'.if-ne.false))
-          ] in
+      | else-joins_hosts w ↦
+          let none : PairOf R.rack u v → ⊥ = λ p. both_ways c.joins_hosts.result w.if-joins_hosts.false (c.joins_hosts.ensures.1 p) in
           let more = sender_skip R plan.levels.now plan.lanes u v s t none c.loop-v.invariant.1 c.loop-v.invariant.2 in
           (rw w.self-is c.loop-v.invariant.0, more.0, rw w.self-is more.1)
     ]

@@ -7,9 +7,6 @@ loop-call-init g c =
     let made = c.in_ok-answers.ensures in
     (made.len, made.capacity, performs_none _ _ (vec_items c.in_ok-answers.answers) made.items)
 
-pub push_reserved-requires : goal.push_reserved-requires
-push_reserved-requires g c = omega (arith, c.loop-call.invariant.0, c.loop-call.invariant.1, c.loop-call-test.true)
-
 pub loop-call-preserved : goal.loop-call-preserved
 loop-call-preserved g c =
     let pushed = c.push_reserved.ensures in (

@@ -1,5 +1,5 @@
 use Rattle.std.proofs.Common.{◌∙◌, inl}
-use borrow.Author.Tests.{both_ways}
+use Rattle.std.proofs.lemmas.Bool.{both_ways}
 use Rattle.routing.specs.Paths.{PairOf}
 use Rattle.routing.specs.Plans.{routing_of}
 use Rattle.report.proofs.Printing.{receivers_more, nothing_printed}

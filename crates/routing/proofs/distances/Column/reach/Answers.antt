@@ -1,6 +1,7 @@
 use Rattle.std.proofs.Common.{◌<◌, length, arith}
 use Rattle.rack.proofs.Facts.{head_below}
-use Rattle.routing.proofs.Leavers.{Leavers}
+use Rattle.rack.specs.Racks.{Leaving}
+use Rattle.rack.proofs.Lists.{Lists}
 use Rattle.routing.proofs.Columns.{pair_below}
 use Rattle.routing.proofs.Reaching.{head_place, reaching_none, reaching_skip, reaching_write, reaching_all}
 use Rattle.routing.proofs.distances.Column.reach.Goals as goal
@@ -25,7 +26,7 @@ loop-channel-preserved c =
     let v = column.host.0 in
     let told = c.leaving-channel-items.ensures in
     let list = c.leaving-channel-items.result.now in
-    let leavers : Leavers r c.args.node.0 list = record { each = told.each; every = told.every; ascending = told.ascending } in
+    let leavers : Lists (Leaving r c.args.node.0) list = record { each = told.each; every = told.every; ascending = told.ascending } in
     let k = c.loop-channel.channel-index in
     let inside : k < length list = omega arith in
     elim c.match-ends.branch [
