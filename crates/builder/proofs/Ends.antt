@@ -1,7 +1,6 @@
 -- Turns at the two ends of a path are never claimed. Assumes nothing.
 use Rattle.std.proofs.Common.{◌≡◌, ℕ, zero, suc, ◌+◌, ◌-◌, ◌<◌, ◌≤◌, min, true, ltb, leb, ◌⊎◌, List, length, get_or, take, replicate, Option, sym, refl, ap, ◌∙◌, subst, ⊎_elim, arith, eqb-true, le-leb}
-use lib.ListN.{length-replicate}
-use Rattle.std.proofs.lemmas.List.{get_or-take, get_or_past, get_or-replicate, length-take-le}
+use Rattle.std.proofs.lemmas.List.{length-replicate, get_or-take, get_or_past, get_or-replicate, length-take-le}
 use Rattle.std.proofs.lemmas.Bool.{cases_lt, cond-true}
 use Rattle.rack.specs.declared.rack.Rack.{Rack}
 use Rattle.rack.specs.Racks.{node_count, channel_count, tail, tail_port, head, Host, Switch}

@@ -16,13 +16,12 @@ use Rattle.routing.specs.Sources.{enters_switch}
 use Rattle.routing.specs.Walks.{WalkStops}
 use Rattle.routing.proofs.Determined.{stopped_undelivered}
 use Rattle.routing.proofs.Tests.{both_snd, turns_below, turns_enters, entered}
-use Rattle.std.proofs.lemmas.Bool.{cond-true}
+use Rattle.std.proofs.lemmas.Bool.{both_ways, cond-true}
 use Rattle.ranking.specs.declared.faults.RankFault.{RankFault}
 use Rattle.ranking.specs.declared.faults.RankFault.TheVariants.{Tables as ShortTables, Ring as RingFound}
 use Rattle.ranking.specs.Graphs.{NoRing, Room, Ranked, Answered}
 use Rattle.ranking.proofs.Chains.{no_ring_from_rise, ranks_rise}
 use Rattle.rack.specs.declared.rack.Rack.{Rack}
-use borrow.Author.Tests.{both_ways}
 use Rattle.checking.specs.Plans.{FirstFault, level_at, Follows, AllPairs, Sound}
 use Rattle.checking.proofs.Scans.{bit_zero, followed_turns}
 use Rattle.checking.proofs.Rising.{rising_free}
@@ -101,11 +100,17 @@ module _ (g : Routing) (levels : List ℕ) (lanes : ℕ) (before after : TablesA
   accepted_sound (Ok a) h e = record { pairs = h.1; no_ring = h.3.free }
   accepted_sound (Err f) h e = let z : ◌≡◌ {A = ℕ} 0 1 = cc in absurd (omega arith)
 
-  pub exactly_sound : (r : Result Acceptance CheckFault) → Checked g levels lanes before after r → ExactlySound g levels lanes before r
+  exactly_sound : (r : Result Acceptance CheckFault) → Checked g levels lanes before after r → ExactlySound g levels lanes before r
   exactly_sound r h = (accepted_sound r h, λ s sound. fine_accepted r h s sound.pairs sound.no_ring)
 
-  pub rising_accepted : (r : Result Acceptance CheckFault) → Checked g levels lanes before after r → RisingAccepted g levels lanes before r
+  rising_accepted : (r : Result Acceptance CheckFault) → Checked g levels lanes before after r → RisingAccepted g levels lanes before r
   rising_accepted r h s fine rises = fine_accepted r h s fine (rising_free g levels lanes s.0.1 fine rises)
+
+  -- the three clauses of the check
+  pub clauses :
+      (r : Result Acceptance CheckFault) → Checked g levels lanes before after r →
+      record { answer : Checked g levels lanes before after r; sound : ExactlySound g levels lanes before r; rising : RisingAccepted g levels lanes before r }
+  clauses r h = record { answer = h; sound = exactly_sound r h; rising = rising_accepted r h }
 
 -- a numbering of channels that rises along the bare graph rises along the graph over lanes
 pub bare_free : (r : Rack) (table : List ℕ) (n top : ℕ) (s t : List ℕ) → n ≡ channel_count r → Ranked (ChannelFollowedBy r table) n top s t → NoRing (FollowedBy r table)

@@ -1,13 +1,11 @@
 -- Looking for the least follower or forerunner, channel by channel. Assumes nothing.
-use Rattle.std.proofs.Common.{◌≡◌, ℕ, ◌+◌, ◌*◌, ◌/◌, ◌%◌, ◌^◌, ◌<◌, ◌≤◌, ◌↔◌, Bool, true, false, eqb, ltb, not, ◌&&◌, ◌==◌, ◌≢◌, slice_index, Decides, List, length, get_or, Some, None, Option, MatchOption, sym, ap, ◌∙◌, subst, ⊎_elim, arith, eqb-true}
-use native.Mathlib.Nat.{zero-div}
-use borrow.Author.Tests.{both_ways}
-use Rattle.std.proofs.lemmas.Bool.{cases_lt, cases_eq, cases_Bool, cond-false}
+use Rattle.std.proofs.Common.{◌≡◌, ℕ, ◌+◌, ◌*◌, ◌/◌, ◌%◌, ◌<◌, ◌≤◌, ◌↔◌, Bool, true, false, eqb, ltb, not, ◌&&◌, ◌==◌, ◌≢◌, slice_index, Decides, List, length, get_or, Some, None, Option, MatchOption, sym, ap, ◌∙◌, subst, ⊎_elim, arith, eqb-true}
+use Rattle.std.proofs.lemmas.Bool.{both_ways, cases_lt, cases_eq, cases_Bool, cond-false}
 use Rattle.std.proofs.lemmas.Bool.Decides.{Decides-and, Decides-ltb, Decides-not, Decides-eqb}
-use mathlib.Core.List.{map-id}
-use Rattle.std.proofs.lemmas.List.{get_or-take, get_or_default}
+use Rattle.std.proofs.lemmas.List.{get_or-take, get_or_default, map-id}
 use Rattle.std.proofs.lemmas.Iterator.{YieldsList}
 use Rattle.std.proofs.lemmas.Iterator.Consumers.{YieldsList-at, YieldsList-so_far, YieldsList-turn, YieldsList-end}
+use Rattle.std.proofs.lemmas.Nat.Bits.{bit_at-zero}
 use Rattle.std.specs.Iterator.{Yields}
 use Rattle.std.specs.Option.{option_map}
 use Rattle.std.specs.List.{All, AllPairs, AllWithin, Contains, HoldsAt}
@@ -121,7 +119,7 @@ among : (P : ℕ → Type 0) (list : List Channel) → Lists P list → (c : ℕ
 among P list all c at = subst (λ (x : Channel). P x.0) at.2 (all.each at.0 (record { 0 = c }) at.1)
 
 pub bit_zero : (k : ℕ) → bit 0 k ≡ false
-bit_zero k = ap (λ n. eqb (n % 2) 1) (zero-div (2 ^ k))
+bit_zero k = ap (λ n. eqb n 1) (bit_at-zero k)
 
 module _ (r : Rack) (table : List ℕ) where
   -- what has a word that is not 0 is a turn

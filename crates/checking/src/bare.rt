@@ -18,6 +18,8 @@ use rack::rack::ask::way_back;
 use ranking::{Graph, rank};
 use routing::sizes::dependency_words;
 
+// Of one shape with `VirtualChannels`: the type alone says which graph a table is read as.
+// A struct that both hold would add a layer and no more, since `word` and `check_channels` are public and take rack and table side by side.
 #[derive(Clone, Copy)]
 pub struct Channels<'a> {
     pub rack: &'a Rack,

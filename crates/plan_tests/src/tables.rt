@@ -99,7 +99,7 @@ impl Work {
     }
 }
 
-// Puts an entry at a place of a table.
+// Puts an entry at a place of a table. The tests of the fabric have it too: a crate of tests cannot be used by another.
 pub fn put<T: Copy>(table: &mut [T], place: usize, entry: T) {
     if let Some(old) = table.get_mut(place) {
         *old = entry;

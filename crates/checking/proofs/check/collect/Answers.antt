@@ -1,6 +1,5 @@
 use Rattle.std.proofs.Common.{get_or, ap, ◌∙◌, inr, arith}
 use Rattle.std.proofs.lemmas.Result.{err_from_is_err_and}
-use Rattle.routing.specs.Plans.{routing_of}
 use Rattle.checking.proofs.Pairing.{collected, zero_at}
 use Rattle.checking.proofs.check.collect.Goals as goal
 
@@ -13,6 +12,5 @@ pub returns-clause-collected : goal.returns-clause-collected
 returns-clause-collected g c =
     let told = c.in_ok-mark_all.ensures in
     let made = c.in_ok-marks.ensures in
-    let R = routing_of g.S.ForwardingSource.route g.M.LaneMap.lanes c.args.plan.now in
-    collected R c.args.plan.now.levels.now c.args.plan.now.lanes c.in_ok-marks.marks.items c.mark_all.new.self.marks.items
-    told.fine told.marks (λ k. ap (λ xs. get_or xs k 0) (made.items_if_clones_equal (λ y e. e)) ∙ zero_at _ k) (omega (arith, c.mark_all.new.self.marks.ok.0, rw told.plan at c.mark_all.new.self.room))
+    collected _ _ _ c.in_ok-marks.marks.items c.mark_all.new.self.marks.items told.fine told.marks (λ k. ap (λ xs. get_or xs k 0) (made.items_if_clones_equal (λ y e. e)) ∙ zero_at _ k)
+    (omega (arith, c.mark_all.new.self.marks.ok.0, rw told.plan at c.mark_all.new.self.room))

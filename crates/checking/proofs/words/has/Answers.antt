@@ -1,6 +1,6 @@
-use Rattle.std.proofs.Common.{◌/◌, ◌^◌, eqb, ap}
-use lib.Bits.{and_mask}
+use Rattle.std.proofs.Common.{eqb, ap}
+use Rattle.std.proofs.lemmas.Nat.Bits.{shr_and_one}
 use Rattle.checking.proofs.words.has.Goals as goal
 
 pub returns : goal.returns
-returns c = ap (λ n. eqb n 1) (and_mask (c.args.word / 2 ^ c.args.place) 1)
+returns c = ap (λ n. eqb n 1) (shr_and_one c.args.word c.args.place)
