@@ -1,33 +1,20 @@
 -- The path of a pair by the source alone. Assumes nothing.
-use Rattle.std.proofs.Common.{◌≡◌, ℕ, zero, suc, ◌+◌, ◌-◌, ◌<◌, ◌≤◌, true, false, ◌⊎◌, List, [], ◌∷◌, length, get_or, Some, Option, sym, refl, ap, ◌∙◌, subst, ⊎_elim, arith}
+use Rattle.std.proofs.Common.{◌≡◌, ℕ, zero, suc, ◌+◌, ◌-◌, ◌<◌, true, false, ◌⊎◌, List, [], ◌∷◌, length, get_or, Some, Option, sym, refl, ap, ◌∙◌, subst, ⊎_elim, arith}
 use Rattle.std.proofs.lemmas.Option.{same_Some}
 use Rattle.std.proofs.lemmas.List.{ext_get_or}
 use Rattle.std.proofs.lemmas.Bool.{cases_order}
 use Rattle.rack.specs.declared.rack.Rack.{Rack}
-use Rattle.rack.specs.Racks.{channel_count, head, Host, Switch, Leaving}
-use Rattle.rack.proofs.Facts.{host_no_switch}
+use Rattle.rack.specs.Racks.{Leaving}
 use Rattle.routing.specs.declared.pair.Pair.{Pair}
 use Rattle.routing.specs.declared.walk.Step.{Step}
-use Rattle.routing.specs.declared.fault.WalkFault.{WalkFault}
-use Rattle.routing.specs.declared.fault.WalkFault.TheVariants.{NoPair, Endless, NoChannel, Elsewhere, Lane, OtherHost, Memory}
 use Rattle.routing.specs.Sources.{enters_switch}
 use Rattle.routing.specs.Turns.{turns}
 use Rattle.routing.specs.Paths.{Routing, Hop, hop, PairOf, behind, hop_at, OnPath, EndsAtHop}
-use Rattle.routing.specs.Walks.{Walked, WalkStops}
-use Rattle.routing.proofs.Tests.{enters_no}
+use Rattle.routing.specs.Walks.{Walked}
 use Rattle.routing.proofs.Hops.{came, hop_last, from_first}
+use Rattle.routing.proofs.Rounds.{into_host}
 use Rattle.builder.specs.Method.{alone, channels_of, PathOf, Passes}
 use Rattle.builder.proofs.Fitting.{at_step, as_long}
-
--- what is wrong with a path, where there is room for it, is not want of memory
-pub with_room : (g : Routing) (lanes : ℕ) (p : Pair) (s room : ℕ) (f : WalkFault) → channel_count g.rack ≤ room → WalkStops g lanes p s room f → WalkStops g lanes p s (channel_count g.rack) f
-with_room g lanes p s room (NoPair q) h w = w
-with_room g lanes p s room (Endless q k) h w = w
-with_room g lanes p s room (NoChannel q k) h w = w
-with_room g lanes p s room (Elsewhere q k) h w = w
-with_room g lanes p s room (Lane q k) h w = w
-with_room g lanes p s room (OtherHost q k) h w = w
-with_room g lanes p s room Memory h w = absurd (omega (arith, h, w))
 
 -- two hops that are the same have the same behind them
 pub shift : (g : Routing) (c v s i j : ℕ) → hop_at g c v s i ≡ hop_at g c v s j → (k m n : ℕ) → m ≡ k + i → n ≡ k + j → hop_at g c v s m ≡ hop_at g c v s n
@@ -39,10 +26,6 @@ shift g c v s i j e (suc k) m n p q =
     let a : m ≡ suc (k + i) = omega arith in
     let b : n ≡ suc (k + j) = omega arith in
     ap (hop_at g c v s) a ∙ ap (behind g v s) (shift g c v s i j e k (k + i) (k + j) refl refl) ∙ sym (ap (hop_at g c v s) b)
-
--- what enters a host enters no switch
-pub into_host : (r : Rack) (c v : ℕ) → Host r v → head r c ≡ v → enters_switch r c ≡ false
-into_host r c v host e = enters_no r c (λ w h. host_no_switch r v host (subst (Switch r) (sym h.1 ∙ e) h.2))
 
 module _ (r : Rack) (route : ℕ → ℕ → Option ℕ) where
   pub lane_0 : (c v i : ℕ) (h : Hop) → hop_at (alone r route) c v 0 i ≡ Some h → h.lane ≡ 0
@@ -84,7 +67,7 @@ module _ (r : Rack) (route : ℕ → ℕ → Option ℕ) where
     hop_here i l = here i _ (is.hops i l)
 
     last_ends : enters_switch r is.ends.0.channel ≡ false
-    last_ends = into_host r _ v pair.1 is.ends.3
+    last_ends = into_host (alone r route) _ v pair.1 is.ends.3
 
     -- no hop comes behind the last one
     pub none_behind : (k : ℕ) (h : Hop) → length path - 1 < k → hop_at (alone r route) first v 0 k ≡ Some h → ⊥

@@ -90,7 +90,7 @@ module _ (r : Rack) (route : ℕ → ℕ → Option ℕ) (count : ℕ) where
     one_lack Memory f a b = absurd a
     one_lack (Walk e) Lanes a b = absurd b
     one_lack (Walk e) Short a b = absurd b
-    one_lack (Walk e) (Walk f) a b = ap Walk (one_fault r route p pair e f a b)
+    one_lack (Walk e) (Walk f) a b = ap Walk (one_fault r route p e f a b)
     one_lack (Walk e) (Lane q) a b = absurd (no_fault r route p pair b.1.0 e b.1.1 a)
     one_lack (Walk e) (Level q) a b = absurd (no_fault r route p pair b.1.0 e b.1.1 a)
     one_lack (Walk e) Memory a b = absurd b

@@ -1,5 +1,5 @@
 -- The pairs in their order, one more at a time. Assumes nothing.
-use Rattle.std.proofs.Common.{◌≡◌, ℕ, zero, suc, ◌+◌, ◌*◌, ◌<◌, ◌⊎◌, length, Option, sym, ap, ◌∙◌, subst, inl, inr, ⊎_elim, arith}
+use Rattle.std.proofs.Common.{◌≡◌, ℕ, zero, suc, ◌+◌, ◌*◌, ◌<◌, ◌⊎◌, length, None, Some, Option, refl, sym, ap, ◌∙◌, subst, inl, inr, ⊎_elim, arith}
 use Rattle.std.proofs.lemmas.List.{length-replicate}
 use Rattle.std.proofs.lemmas.Bool.{cases_order}
 use Rattle.rack.specs.declared.rack.Rack.{Rack}
@@ -7,10 +7,12 @@ use Rattle.rack.specs.Racks.{node_count, channel_count}
 use Rattle.rack.proofs.Facts.{host_below}
 use Rattle.routing.specs.declared.pair.Pair.{Pair}
 use Rattle.routing.specs.Paths.{PairOf}
+use Rattle.routing.specs.Pairs.{pair_place, NextPair}
 use Rattle.routing.specs.Turns.{lane_bytes}
+use Rattle.routing.proofs.PairOrder.{Taken as Before, taken_start, taken_next, taken_more, taken_end}
 use Rattle.builder.specs.declared.fault.BuildFault.{BuildFault}
 use Rattle.builder.specs.Method.{Tables, blank, PairBuilt, Taken, Receivers, Senders}
-use Rattle.builder.specs.Outcomes.{LongEnough, NoPath, Lacks}
+use Rattle.builder.specs.Outcomes.{LongEnough, NoPath, Lacks, FirstLacks}
 
 -- tables that are all 0 are long enough
 pub blank_long : (r : Rack) (t : Tables) → t ≡ blank r → LongEnough r t
@@ -23,11 +25,50 @@ module _ (r : Rack) (route : ℕ → ℕ → Option ℕ) (count : ℕ) where
   pub lacks_path : (p : Pair) (was : Tables) (f : BuildFault) → NoPath r route p f → Lacks r route count p was f
   lacks_path p was f h = subst (Lacks r route count p was) (sym h.1) h.2
 
-  pub receivers_more : (u v : ℕ) (was mid now : Tables) → Receivers r route count u v was mid → Taken r route count u v mid now → Receivers r route count u (v + 1) was now
-  receivers_more u v was mid now a b = let e : suc v ≡ v + 1 = omega arith in subst (λ n. Receivers r route count u n was now) e (mid, a, b)
+  -- the senders below u are taken, and of u the receivers below v, from tables that are all 0
+  abbrev pub SoFar : Tables → ℕ → ℕ → Type 0
+  SoFar now u v = (mid : Tables) × Senders r route count u (blank r) mid × Receivers r route count u v mid now
 
-  pub senders_more : (u : ℕ) (was mid now : Tables) → Senders r route count u was mid → Receivers r route count u (node_count r) mid now → Senders r route count (u + 1) was now
-  senders_more u was mid now a b = let e : suc u ≡ u + 1 = omega arith in subst (λ n. Senders r route count n was now) e (mid, a, b)
+  pub row : (now : Tables) (u : ℕ) → SoFar now u (node_count r) → SoFar now (suc u) 0
+  row now u h = (now, (h.0, h.1, h.2), refl)
+
+  pub skip : (now : Tables) (u v : ℕ) → (PairOf r u v → ⊥) → SoFar now u v → SoFar now u (suc v)
+  skip now u v none h = (h.0, h.1, (now, h.2, inr (none, refl)))
+
+  -- the pairs before a place are taken
+  abbrev pub TakenFrom : ℕ → Tables → Type 0
+  TakenFrom from now = Before r (SoFar now) (row now) (skip now) from
+
+  pub pairs_start : (now : Tables) → now ≡ blank r → TakenFrom 0 now
+  pairs_start now e = taken_start r (SoFar now) (row now) (skip now) (blank r, refl, e)
+
+  pub pairs_more : (from : ℕ) (p : Pair) (was now : Tables) → NextPair r from (Some p) → TakenFrom from was → PairBuilt r route count p.sender.0 p.receiver.0 was now → TakenFrom (pair_place r p.sender.0 p.receiver.0 + 1) now
+  pairs_more from p was now next t built =
+      let h = taken_next r (SoFar was) (row was) (skip was) from p next t in
+      taken_more r (SoFar now) (row now) (skip now) p.sender.0 p.receiver.0 next.0 (h.0, h.1, (was, h.2, inl (next.0, built)))
+
+  pub pairs_end : (from : ℕ) (now : Tables) → NextPair r from None → TakenFrom from now → Senders r route count (node_count r) (blank r) now
+  pairs_end from now none t =
+      let h = taken_end r (SoFar now) (row now) (skip now) from none t in
+      subst (Senders r route count (node_count r) (blank r)) (sym h.2) h.1
+
+  -- the next pair lacks something
+  pub first_lacks : (from : ℕ) (p : Pair) (was : Tables) (f : BuildFault) → NextPair r from (Some p) → TakenFrom from was → Lacks r route count p was f → FirstLacks r route count f
+  first_lacks from p was f next t lacks =
+      let h = taken_next r (SoFar was) (row was) (skip was) from p next t in
+      record {
+        sender = p.sender.0;
+        there = h.0;
+        before = h.1;
+        row = record {
+          pair = p;
+          here = was;
+          sender = refl;
+          hosts = next.0;
+          before = h.2;
+          lacks = lacks;
+        };
+      }
 
   -- what was taken on the way
   pub taken_on_way : (u n v : ℕ) (was now : Tables) → v < n → Receivers r route count u n was now → (mid : Tables) × ((next : Tables) × (Receivers r route count u v was mid × Taken r route count u v mid next))

@@ -3,16 +3,17 @@ ghost use Rattle.std.specs.Prelude.{◌≡◌, ◌*◌, ◌≤◌, length, drop,
 ghost use Rattle.rack.specs.Racks.{node_count, channel_count};
 ghost use Rattle.routing.specs.Paths.{PairOf};
 ghost use Rattle.routing.specs.Turns.{lane_bytes};
-ghost use Rattle.builder.specs.Method.{channels_of, PathOf, tables, PairBuilt, Receivers, Senders, blank};
+ghost use Rattle.builder.specs.Method.{channels_of, PathOf, tables, PairBuilt, Senders, blank};
 ghost use Rattle.builder.specs.Laws.{Rises, EndsKeep0};
-ghost use Rattle.builder.specs.Outcomes.{InRange, LongEnough, NoPath, Lacks, ReceiverLacks, FirstLacks, Outcome};
+ghost use Rattle.builder.specs.Outcomes.{InRange, LongEnough, NoPath, Lacks, FirstLacks, Outcome};
 
 use crate::fault::BuildFault;
 use crate::turns::{claim_all, lowest_level};
-use rack::numbers::{Level, Node};
+use rack::numbers::Level;
 use rack::rack::Rack;
 use routing::one_lane::OneLane;
 use routing::pair::Pair;
+use routing::pairs::Pairs;
 use routing::plan::Plan;
 use routing::sizes::{lane_bytes, node_pairs};
 use routing::source::ForwardingSource;
@@ -72,35 +73,14 @@ impl<S: ForwardingSource> Builder<'_, S> {
         Ok(())
     }
 
-    // The pairs of one sender, by ascending receiver.
-    fn sender(
-        &mut self,
-        sender: Node,
-        lanes: &mut [u8],
-        levels: &mut [u8],
-    ) -> Result<(), BuildFault>
-        requires { LongEnough self.old.given.now.rack.now (tables lanes.old levels.old) }
-        ensures answer { MatchResult result (λ _. Receivers self.old.given.now.rack.now (S.ForwardingSource.route self.old.given.now.source.now) self.old.given.now.lane_count sender.0 (node_count self.old.given.now.rack.now) (tables lanes.old levels.old) (tables lanes.new levels.new)) (ReceiverLacks self.old.given.now.rack.now (S.ForwardingSource.route self.old.given.now.source.now) self.old.given.now.lane_count sender.0 (tables lanes.old levels.old)) }
-        ensures given { self.new.given ≡ self.old.given }
-    {
-        let given = self.given;
-        for v in 0..given.rack.node_count() as u16 {
-            let receiver = Node(v);
-            let pair = Pair { sender, receiver };
-            if pair.joins_hosts(given.rack) {
-                self.pair(pair, lanes, levels)?;
-            }
-        }
-        Ok(())
-    }
-
     // All pairs, by ascending sender and then receiver, from tables that are all 0.
     fn all(&mut self, lanes: &mut [u8], levels: &mut [u8]) -> Result<(), BuildFault>
         requires { tables lanes.old levels.old ≡ blank self.old.given.now.rack.now }
         ensures { MatchResult result (λ _. Senders self.old.given.now.rack.now (S.ForwardingSource.route self.old.given.now.source.now) self.old.given.now.lane_count (node_count self.old.given.now.rack.now) (blank self.old.given.now.rack.now) (tables lanes.new levels.new)) (FirstLacks self.old.given.now.rack.now (S.ForwardingSource.route self.old.given.now.source.now) self.old.given.now.lane_count) }
     {
-        for u in 0..self.given.rack.node_count() as u16 {
-            self.sender(Node(u), lanes, levels)?;
+        let given = self.given;
+        for pair in Pairs::of(given.rack) {
+            self.pair(pair, lanes, levels)?;
         }
         Ok(())
     }

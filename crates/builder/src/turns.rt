@@ -1,4 +1,5 @@
 // The middle turns of a path, and their entries in the lane table.
+// Rack, lane table and path stand side by side: the table is lent by the caller, and a struct with it would have to say after each write that it is still the same one.
 // In a path c0 .. cn, middle turn j, for j from 1 to n - 2, goes from channel j to channel j + 1 and wants lane j.
 ghost use Rattle.std.specs.Prelude.{◌≡◌, ◌+◌, ◌≤◌, true, length, Decides, MatchOption, slice_set};
 ghost use Rattle.rack.specs.Racks.{channel_count, tail_port};

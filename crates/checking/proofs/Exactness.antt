@@ -2,8 +2,8 @@
 use Rattle.std.proofs.Common.{◌≡◌, ℕ, suc, ◌+◌, ◌*◌, ◌/◌, ◌%◌, ◌<◌, ◌≤◌, true, ◌↔◌, List, get_or, sym, refl, ap, ◌∙◌, subst, arith, eqb-true}
 use Rattle.std.proofs.lemmas.Option.{same_Some}
 use Rattle.std.proofs.lemmas.Bool.{cond-true}
-use Rattle.rack.specs.Racks.{node_count, channel_count, head, tail, tail_port, LeavingBy}
-use Rattle.rack.proofs.Facts.{host_below, tail_port_within, same_port}
+use Rattle.rack.specs.Racks.{channel_count, head, tail, tail_port, LeavingBy}
+use Rattle.rack.proofs.Facts.{tail_port_within, same_port}
 use Rattle.ranking.specs.Graphs.{Ranked, Ringed}
 use Rattle.ranking.proofs.Chains.{no_ring_under, ring_under, rank_same}
 use Rattle.routing.specs.Sources.{enters_switch}
@@ -45,13 +45,12 @@ module _ (g : Routing) (levels : List ℕ) (lanes : ℕ) (few : lanes ≤ 8) (fi
         high = let l = (fine u v pair).low (suc i) o then in omega arith;
       }
 
-  said : (c p v q : ℕ) → 1 ≤ p → p ≤ 36 → v < 8 → q < 8 → AllSay g levels (node_count g.rack) (turn_place c p) (8 * v + q) → (d : ℕ) × LeavingBy g.rack (head g.rack c) p d × Follows g levels (8 * c + v) (8 * d + q)
+  said : (c p v q : ℕ) → 1 ≤ p → p ≤ 36 → v < 8 → q < 8 → AllSay g levels (turn_place c p) (8 * v + q) → (d : ℕ) × LeavingBy g.rack (head g.rack c) p d × Follows g levels (8 * c + v) (8 * d + q)
   said c p v q p1 p36 lv lq all =
       let a = all.0 in
-      let x = all.2 in
-      let b = x.0 in
-      let pair = x.1 in
-      let y = x.2 in
+      let b = all.1 in
+      let pair = all.2 in
+      let y = all.3 in
       let h = y.1 in
       let o = y.2 in
       let t = turned a b y.0 h o pair y.3 y.4 in
@@ -78,7 +77,7 @@ module _ (g : Routing) (levels : List ℕ) (lanes : ℕ) (few : lanes ≤ 8) (fi
         },
       )
 
-  says : (c p v q d : ℕ) → v < 8 → q < 8 → LeavingBy g.rack (head g.rack c) p d → Follows g levels (8 * c + v) (8 * d + q) → AllSay g levels (node_count g.rack) (turn_place c p) (8 * v + q)
+  says : (c p v q d : ℕ) → v < 8 → q < 8 → LeavingBy g.rack (head g.rack c) p d → Follows g levels (8 * c + v) (8 * d + q) → AllSay g levels (turn_place c p) (8 * v + q)
   says c p v q d lv lq leaving f =
       let t = turned f.sender f.receiver f.place f.one f.other f.pair f.uses f.then in
       let ce : f.one.channel ≡ c = omega (arith, f.from, t.low) in
@@ -86,9 +85,9 @@ module _ (g : Routing) (levels : List ℕ) (lanes : ℕ) (few : lanes ≤ 8) (fi
       let de : f.other.channel ≡ d = omega (arith, f.to, t.high) in
       let qe : f.other.lane ≡ q = omega (arith, f.to, t.high) in
       let pe : tail_port g.rack f.other.channel ≡ p = ap (tail_port g.rack) de ∙ leaving.1 in
-      (f.sender, host_below g.rack f.sender f.pair.0, (f.receiver, f.pair, (f.place, f.one, f.other, f.uses, f.then, (omega (arith, ce, pe), omega (arith, ve, qe)))))
+      (f.sender, f.receiver, f.pair, (f.place, f.one, f.other, f.uses, f.then, (omega (arith, ce, pe), omega (arith, ve, qe))))
 
-  module _ (table : List ℕ) (marked : (k b : ℕ) → k < turn_count (channel_count g.rack) → (bit (get_or table k 0) b ≡ true ↔ AllSay g levels (node_count g.rack) k b)) where
+  module _ (table : List ℕ) (marked : (k b : ℕ) → k < turn_count (channel_count g.rack) → (bit (get_or table k 0) b ≡ true ↔ AllSay g levels k b)) where
     pub exact : Exact g levels table
     exact c p v q lc p1 p36 lv lq =
         let m = marked (turn_place c p) (8 * v + q) (omega arith) in

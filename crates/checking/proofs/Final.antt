@@ -1,7 +1,7 @@
 -- From the parts of the check to its answer. Assumes nothing.
 use Rattle.std.proofs.Common.{◌≡◌, ℕ, ◌+◌, ◌*◌, ◌/◌, ◌%◌, ◌<◌, ◌≤◌, true, ◌⊎◌, ⊎_elim, ◌↔◌, List, ◌++◌, length, get_or, drop, is_ok, Ok, Err, Result, sym, refl, ap, ◌∙◌, subst, inl, inr, arith, eqb-true}
 use Rattle.std.proofs.lemmas.List.{get_or_append_left}
-use Rattle.rack.specs.Racks.{node_count, channel_count, head, tail, tail_port}
+use Rattle.rack.specs.Racks.{channel_count, head, tail, tail_port}
 use Rattle.routing.specs.Turns.{turn_count, turn_place}
 use Rattle.routing.specs.Paths.{Routing, Hop, PairOf, OnPath, Delivered}
 use Rattle.checking.specs.declared.acceptance.Acceptance.{Acceptance}
@@ -52,7 +52,7 @@ module _ (g : Routing) (levels : List ℕ) (lanes : ℕ) where
   fault_to t f s (inr h) = first_to t f s h
 
   module _ (before : TablesAt) (marks part post t v : List ℕ) (s : Starts g levels lanes before) (m : Collected g levels lanes marks) (is : part ≡ marks) (beyond : drop (turn_count (channel_count g.rack)) (part ++ post) ≡ drop (turn_count (channel_count g.rack)) before.dependencies) where
-    marked : (k b : ℕ) → k < turn_count (channel_count g.rack) → (bit (get_or (part ++ post) k 0) b ≡ true ↔ AllSay g levels (node_count g.rack) k b)
+    marked : (k b : ℕ) → k < turn_count (channel_count g.rack) → (bit (get_or (part ++ post) k 0) b ≡ true ↔ AllSay g levels k b)
     marked k b l =
         let long : length part ≡ turn_count (channel_count g.rack) = ap length is ∙ m.1 in
         let same : get_or (part ++ post) k 0 ≡ get_or marks k 0 = get_or_append_left part post 0 k (omega arith) ∙ ap (λ xs. get_or xs k 0) is in

@@ -11,7 +11,7 @@ use Rattle.std.specs.Option.{option_map}
 use Rattle.std.specs.List.{All, AllPairs, AllWithin, Contains, HoldsAt}
 use Rattle.rack.specs.declared.numbers.Channel.{Channel}
 use Rattle.rack.specs.declared.rack.Rack.{Rack}
-use Rattle.rack.proofs.Lists.{Lists}
+use Rattle.rack.specs.Index.{Lists}
 use Rattle.rack.specs.Racks.{channel_count, head, tail, tail_port, Leaving, Entering, EntersSwitch}
 use Rattle.routing.specs.Sources.{enters_switch}
 use Rattle.routing.specs.Turns.{turns, turn_place}

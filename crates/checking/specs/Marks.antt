@@ -1,19 +1,17 @@
 -- What the check keeps true of its marks: for the proofs, not for the reader. Assumes nothing.
 use Rattle.std.specs.Prelude.{◌≡◌, ℕ, suc, ◌+◌, ◌*◌, ◌<◌, true, ◌⊎◌, ◌↔◌, List, length, Ok, Err, Result, slice_index, slice_index_or}
 use Rattle.rack.specs.declared.rack.Rack.{Rack}
-use Rattle.rack.specs.Racks.{node_count, channel_count, tail_port}
+use Rattle.rack.specs.Racks.{channel_count, tail_port}
 use Rattle.routing.specs.declared.walk.Step.{Step}
 use Rattle.routing.specs.Turns.{turn_place, turn_count}
 use Rattle.routing.specs.Paths.{Routing, Hop, PairOf}
 use Rattle.routing.specs.Walks.{hop_of}
 use Rattle.checking.specs.Words.{bit, FollowedBy}
-use Rattle.rack.specs.declared.numbers.Node.{Node}
-use Rattle.routing.specs.declared.pair.Pair.{Pair}
 use Rattle.checking.specs.declared.fault.CheckFault.{CheckFault}
 use Rattle.checking.specs.declared.fault.CheckFault.TheVariants.{Lanes, Tables, Level, Walk, Ring, Memory}
 use Rattle.checking.specs.declared.acceptance.Acceptance.{Acceptance}
 use Rattle.ranking.specs.Graphs.{Ranked, Ringed}
-use Rattle.checking.specs.Plans.{On, FinePair, AllPairs, AtFault}
+use Rattle.checking.specs.Plans.{On, AllPairs}
 
 -- exactly the bits of M were added
 abbrev pub Adds : (ℕ → ℕ → Type 0) → List ℕ → List ℕ → Type 0
@@ -31,31 +29,14 @@ ListSays r path n k b = (i : ℕ) × (i < n) × ((d : Step) → Says r (hop_of (
 abbrev pub PairSays : Routing → List ℕ → ℕ → ℕ → ℕ → ℕ → Type 0
 PairSays g levels u v k b = (i : ℕ) × (h : Hop) × (o : Hop) × On g levels u v i h × On g levels u v (suc i) o × Says g.rack h o k b
 
--- some pair with sender u and a receiver below n
-abbrev pub SenderSays : Routing → List ℕ → ℕ → ℕ → ℕ → ℕ → Type 0
-SenderSays g levels u n k b = (v : ℕ) × (v < n) × PairOf g.rack u v × PairSays g levels u v k b
-
--- some pair with a sender below n
-abbrev pub AllSay : Routing → List ℕ → ℕ → ℕ → ℕ → Type 0
-AllSay g levels n k b = (u : ℕ) × (u < n) × ((v : ℕ) × PairOf g.rack u v × PairSays g levels u v k b)
-
--- the pairs of sender u with a receiver below n are fine
-abbrev pub SenderFine : Routing → List ℕ → ℕ → ℕ → ℕ → Type 0
-SenderFine g levels lanes u n = (v : ℕ) → v < n → PairOf g.rack u v → FinePair g levels lanes u v
-
--- the fault is that of the first pair of the sender that is not fine
-abbrev pub SenderFault : Routing → List ℕ → ℕ → Node → CheckFault → Type 0
-SenderFault g levels lanes u f =
-    (p : Pair) × (p.sender.0 ≡ u.0) × PairOf g.rack p.sender.0 p.receiver.0 × SenderFine g levels lanes u.0 p.receiver.0 × AtFault g levels lanes p f
-
--- the pairs with a sender below n are fine
-abbrev pub AllFine : Routing → List ℕ → ℕ → ℕ → Type 0
-AllFine g levels lanes n = (u v : ℕ) → u < n → PairOf g.rack u v → FinePair g levels lanes u v
+-- some hop of the path of some pair, and the next
+abbrev pub AllSay : Routing → List ℕ → ℕ → ℕ → Type 0
+AllSay g levels k b = (u : ℕ) × (v : ℕ) × PairOf g.rack u v × PairSays g levels u v k b
 
 -- every pair is fine, and the marks are those of all pairs
 abbrev pub Collected : Routing → List ℕ → ℕ → List ℕ → Type 0
 Collected g levels lanes marks =
-    AllPairs g levels lanes × (length marks ≡ turn_count (channel_count g.rack)) × ((k b : ℕ) → (bit (slice_index marks k) b ≡ true ↔ AllSay g levels (node_count g.rack) k b))
+    AllPairs g levels lanes × (length marks ≡ turn_count (channel_count g.rack)) × ((k b : ℕ) → (bit (slice_index marks k) b ≡ true ↔ AllSay g levels k b))
 
 -- what ranking the virtual channels answers, as the table tells them
 abbrev pub Settled : Rack → List ℕ → List ℕ → List ℕ → List ℕ → List ℕ → Result Acceptance CheckFault → Type 0

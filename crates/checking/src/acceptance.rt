@@ -1,7 +1,7 @@
 // The proof that a plan was checked and accepted.
 ghost use Rattle.std.specs.Prelude.{◌≡◌};
 
-// Made by the check alone; it can be given on, and not copied.
+// Made by the check alone; it can be given on, and not copied. No `Model`: clauses name its one field.
 #[derive(Drop, Debug)]
 pub struct Acceptance {
     greatest: u16,

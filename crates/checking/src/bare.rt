@@ -39,7 +39,7 @@ impl Channels<'_> {
     }
 }
 
-// The lowest of the channels, from `from` on, that is marked.
+// The lowest of the channels, from `from` on, that is marked. `from` is a plain number, since a graph knows no channels.
 fn first_marked<I, F>(mut channels: I, from: u16, is_marked: F) -> Option<u16>
 where
     I: Iterator<Item = Channel> + Drop,

@@ -19,7 +19,7 @@ use routing::sizes::{dependency_words, node_pairs, virtual_channels};
 use routing::source::ForwardingSource;
 use std::alloc::Global;
 
-// Whether the lane count is in range and the tables are long enough.
+// Whether the lane count is in range and the tables are long enough. The range is one comparison, and the definitions of each layer name it in their own words.
 fn admissible<S: ForwardingSource, M: LaneMap>(
     plan: &Plan<'_, S, M>,
     dependencies: &[u64],
@@ -77,7 +77,7 @@ fn settle<'x>(
 }
 
 // Accepts the plan if every pair is delivered on lanes below the lane count, with a level to 15, and no virtual channels follow one another in a ring.
-// The three tables are lent, and stand side by side for the same reason as the builder's.
+// The three tables are lent, and stand side by side: in a struct each call would have to say that they are still the same tables.
 // Work grows with pairs times hops, and with dependencies times ranks.
 pub fn check<S: ForwardingSource, M: LaneMap>(
     heap: Global,

@@ -17,13 +17,14 @@ use ranking::Graph;
 use routing::rows::{turn, turn_port};
 use routing::sizes::virtual_channels;
 
+// Points are plain numbers here: virtual channel 8c + q is lane q of channel c.
 #[derive(Clone, Copy)]
 pub struct VirtualChannels<'a> {
     pub rack: &'a Rack,
     pub dependencies: &'a [u64],
 }
 
-// The word at the place of a channel and a port; 0 beyond the table.
+// The word at the place of a channel and a port, side by side as `turn` takes them; 0 beyond the table.
 pub(crate) fn word_at(dependencies: &[u64], channel: Channel, port: Port) -> u64
     ensures { result ≡ slice_index dependencies.now (turn_place channel.0 port.0) }
 {

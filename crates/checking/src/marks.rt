@@ -1,18 +1,18 @@
 // Walks the paths of all pairs and marks what follows what.
 ghost use Rattle.std.specs.Prelude.{◌≡◌, ℕ, ◌+◌, ◌-◌, ◌<◌, ◌≤◌, true, length, vec_len, vec_capacity, OnOk, IfErr, slice_index_or};
-ghost use Rattle.rack.specs.Racks.{node_count, channel_count, Host};
+ghost use Rattle.rack.specs.Racks.{channel_count};
 ghost use Rattle.routing.specs.Turns.{turns, turn_count};
 ghost use Rattle.routing.specs.Paths.{PairOf};
 ghost use Rattle.routing.specs.Walks.{hop_of};
-ghost use Rattle.checking.specs.Plans.{FinePair, AtFault, FirstFault};
+ghost use Rattle.checking.specs.Plans.{FinePair, AllPairs, AtFault, FirstFault};
 ghost use Rattle.routing.specs.Plans.{routing_of};
-ghost use Rattle.checking.specs.Marks.{Adds, Says, ListSays, PairSays, SenderSays, AllSay, SenderFine, SenderFault, AllFine};
+ghost use Rattle.checking.specs.Marks.{Adds, Says, ListSays, PairSays, AllSay};
 
 use crate::fault::CheckFault;
-use rack::numbers::Node;
 use rack::rack::Rack;
 use routing::map::LaneMap;
 use routing::pair::Pair;
+use routing::pairs::Pairs;
 use routing::plan::{Plan, level_of};
 use routing::rows::{turn, turn_port};
 use routing::source::ForwardingSource;
@@ -24,9 +24,7 @@ fn mark(rack: &Rack, marks: &mut [u64], one: Step, other: Step)
     requires room { turn_count (channel_count rack.now) ≤ length marks.old }
     ensures { Adds (Says rack.now (hop_of one) (hop_of other)) marks.old marks.new }
 {
-    let Some(port) = turn_port(rack, one.channel, other.channel) else {
-        return;
-    };
+    let port = turn_port(rack, one.channel, other.channel).unwrap();
     let place = turn(one.channel, port);
     let bit = 8 * one.lane.number() + other.lane.number();
     marks[place] |= 1u64 << bit;
@@ -71,38 +69,16 @@ impl<S: ForwardingSource, M: LaneMap> Marker<'_, S, M> {
         Ok(())
     }
 
-    // The pairs of one sender, by ascending receiver.
-    fn mark_sender(&mut self, sender: Node) -> Result<(), CheckFault>
-        requires { Host self.old.plan.now.rack.now sender.0 }
-        ensures plan { self.new.plan ≡ self.old.plan }
-        ensures fine { OnOk result (SenderFine (routing_of S.route M.lanes self.old.plan.now) self.old.plan.now.levels.now self.old.plan.now.lanes sender.0 (node_count self.old.plan.now.rack.now)) }
-        ensures marks { OnOk result (Adds (SenderSays (routing_of S.route M.lanes self.old.plan.now) self.old.plan.now.levels.now sender.0 (node_count self.old.plan.now.rack.now)) self.old.marks.items self.new.marks.items) }
-        ensures fault { IfErr result (SenderFault (routing_of S.route M.lanes self.old.plan.now) self.old.plan.now.levels.now self.old.plan.now.lanes sender) }
-    {
-        let plan = self.plan;
-        for v in 0..plan.rack.node_count() as u16 {
-            let receiver = Node(v);
-            let pair = Pair { sender, receiver };
-            if pair.joins_hosts(plan.rack) {
-                self.mark_pair(pair)?;
-            }
-        }
-        Ok(())
-    }
-
     // All pairs, by ascending sender and then receiver; the first fault is the answer.
     pub fn mark_all(&mut self) -> Result<(), CheckFault>
         ensures plan { self.new.plan ≡ self.old.plan }
-        ensures fine { OnOk result (AllFine (routing_of S.route M.lanes self.old.plan.now) self.old.plan.now.levels.now self.old.plan.now.lanes (node_count self.old.plan.now.rack.now)) }
-        ensures marks { OnOk result (Adds (AllSay (routing_of S.route M.lanes self.old.plan.now) self.old.plan.now.levels.now (node_count self.old.plan.now.rack.now)) self.old.marks.items self.new.marks.items) }
+        ensures fine { OnOk result (AllPairs (routing_of S.route M.lanes self.old.plan.now) self.old.plan.now.levels.now self.old.plan.now.lanes) }
+        ensures marks { OnOk result (Adds (AllSay (routing_of S.route M.lanes self.old.plan.now) self.old.plan.now.levels.now) self.old.marks.items self.new.marks.items) }
         ensures fault { IfErr result (FirstFault (routing_of S.route M.lanes self.old.plan.now) self.old.plan.now.levels.now self.old.plan.now.lanes) }
     {
         let plan = self.plan;
-        for u in 0..plan.rack.node_count() as u16 {
-            let sender = Node(u);
-            if plan.rack.is_host(sender) {
-                self.mark_sender(sender)?;
-            }
+        for pair in Pairs::of(plan.rack) {
+            self.mark_pair(pair)?;
         }
         Ok(())
     }

@@ -13,7 +13,8 @@ use Rattle.fabric.specs.declared.packet.Delivery.{Delivery}
 use Rattle.fabric.specs.declared.fault.FabricFault.{FabricFault}
 use Rattle.fabric.specs.declared.call.Call.TheVariants.{Admit, Forward, Take}
 use Rattle.fabric.specs.declared.call.Done.TheVariants.{Admitted, Forwarded, Taken}
-use Rattle.fabric.proofs.Same.{same_number, same_channel}
+use Rattle.rack.proofs.Same.{same_number}
+use Rattle.fabric.proofs.Same.{same_channel}
 use Rattle.fabric.specs.Packets.{moved, delivery}
 use Rattle.fabric.specs.Calls.{Setup, Admits, AdmitRefused, GoesOn, CanForward, Forwards, ForwardRefused, CanTake, Takes, TakeRefused, Answer}
 use Rattle.fabric.specs.Laws.{OneAnswer, ForwardAccepted, TakeAccepted}

@@ -69,7 +69,7 @@ impl FabricFault {
         }
     }
 
-    // The hop that the refusal is about; the fault of a walk tells its own. 0 where it is about none, as `WalkFault::hop` has it.
+    // The hop that the refusal is about; the fault of a walk tells its own. 0 where it is about none, as in the line of a refusal.
     pub fn hop(self) -> u16
         ensures { result ≡ (fabric_refusal self).hop }
     {

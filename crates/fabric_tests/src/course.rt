@@ -18,7 +18,7 @@ pub fn queues(heap: Global, count: usize) -> Result<Vec<Queue>, AllocError> {
     vec![in heap; Queue::empty(); count]
 }
 
-// Puts another entry at a place of a table. The tests of plans have it too: a crate of tests cannot be used by another.
+// Puts another entry at a place of a table. The tests of plans have it too: a crate of tests cannot be used by another, and `example_racks` is for racks.
 fn put<T: Copy>(table: &mut [T], place: usize, entry: T) {
     if let Some(old) = table.get_mut(place) {
         *old = entry;

@@ -11,7 +11,7 @@ use routing::fault::DistanceFault;
 use routing::pair::Pair;
 use std::test::*;
 
-// The true distances of a rack of eight nodes.
+// The true distances of a rack of eight nodes. The tests of routing have it for any rack: a crate of tests cannot be used by another, and `example_racks` does not stand on routing.
 fn distances_of(rack: &Rack) -> Result<[u8; 64], DistanceFault> {
     let mut distances = [0u8; 64];
     fill_distances(rack, &mut distances)?;

@@ -28,7 +28,7 @@ impl Tables {
         })
     }
 
-    // Zero at every place that the rack needs.
+    // Zero at every place that the rack needs. Lengths are written out in these tests, so that `sizes` of routing is tested too.
     pub fn zero(heap: Global, rack: &Rack) -> Result<Tables, AllocError> {
         let nodes = rack.node_count();
         Tables::new(heap, 576 * rack.channel_count(), nodes * nodes, 0)
@@ -99,7 +99,7 @@ impl Work {
     }
 }
 
-// Puts an entry at a place of a table. The tests of the fabric have it too: a crate of tests cannot be used by another.
+// Puts an entry at a place of a table. The tests of the fabric have it too: a crate of tests cannot be used by another, and `example_racks` is for racks.
 pub fn put<T: Copy>(table: &mut [T], place: usize, entry: T) {
     if let Some(old) = table.get_mut(place) {
         *old = entry;

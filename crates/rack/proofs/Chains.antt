@@ -1,7 +1,9 @@
 -- What a chain over cables or nodes answers, as a contract says it. Assumes nothing.
-use Rattle.std.proofs.Common.{◌≡◌, ℕ, ◌<◌, ◌⊎◌, Bool, true, false, List, length, get_or, Some, None, Option, MatchOption, MatchBool, Decides, refl, inl, inr, arith}
-use Rattle.std.specs.List.{AllWithin, HoldsAt}
+use Rattle.std.proofs.Common.{◌≡◌, ℕ, ◌+◌, ◌<◌, ◌⊎◌, Bool, true, false, List, length, get_or, Some, None, Option, MatchOption, MatchBool, Decides, sym, refl, ap, ◌∙◌, subst, inl, inr, arith}
+use Rattle.std.specs.List.{AllWithin, HoldsAt, enumerate_from}
 use Rattle.std.proofs.lemmas.Bool.{false≢true}
+use Rattle.std.proofs.lemmas.Bool.Decides.{Decides-like}
+use Rattle.std.proofs.lemmas.List.FromFn.{get_or-enumerate_from, length-enumerate_from}
 use Rattle.rack.specs.declared.cable.Cable.{Cable}
 use Rattle.rack.specs.declared.cable.End.{End}
 use Rattle.rack.specs.Network.{none, EndsAt, FreeEnd, Uncabled}
@@ -10,6 +12,16 @@ use Rattle.rack.specs.Network.{none, EndsAt, FreeEnd, Uncabled}
 pub all_decides : {X : Type 0} (P : X → Type 0) (xs : List X) (d : X) (r : Bool) → MatchBool r (AllWithin P xs 0 (length xs)) ((k : ℕ) × (k < length xs) × HoldsAt (λ x. P x → ⊥) xs k) → Decides r ((k : ℕ) → k < length xs → P (get_or xs k d))
 all_decides P xs d true all = (λ _. λ k h. all k d (omega arith) h, λ _. refl)
 all_decides P xs d false some = (λ e. absurd (false≢true e), λ all. absurd (some.2 d (all some.0 some.1)))
+
+-- and of each element and its place
+pub all_numbered_decides :
+    {X : Type 0} (P : ℕ → X → Type 0) (xs : List X) (d : X) (r : Bool) →
+    MatchBool r (AllWithin (λ p. P p.0 p.1) (enumerate_from 0 xs) 0 (length (enumerate_from 0 xs))) ((k : ℕ) × (k < length (enumerate_from 0 xs)) × HoldsAt (λ p. P p.0 p.1 → ⊥) (enumerate_from 0 xs) k) →
+    Decides r ((k : ℕ) → k < length xs → P k (get_or xs k d))
+all_numbered_decides {X} P xs d r told =
+    let Q : ℕ × X → Type 0 = λ p. P p.0 p.1 in
+    let at : (k : ℕ) → k < length xs → get_or (enumerate_from 0 xs) k (0, d) ≡ (k, get_or xs k d) = λ k h. let e : 0 + k ≡ k = omega arith in get_or-enumerate_from 0 xs k (0, d) h ∙ ap {B = ℕ × X} (λ n. (n, get_or xs k d)) e in
+    Decides-like r (λ all k h. subst Q (at k h) (all k (rw length-enumerate_from h))) (λ all k h. let h' = rw length-enumerate_from at h in subst Q (sym (at k h')) (all k h')) (all_decides Q (enumerate_from 0 xs) (0, d) r told)
 
 -- `position`, of the cable that ends there
 pub cable_from_position :

@@ -1,5 +1,5 @@
 -- The two channels of a cable, and the ports that they leave. Assumes nothing.
-use Rattle.std.proofs.Common.{◌≡◌, ℕ, ◌+◌, ◌*◌, ◌/◌, ◌%◌, ◌<◌, ◌≤◌, true, false, cond, eqb, List, length, get_or, take, sym, refl, ap, ◌∙◌, subst, inl, inr, ⊎_elim, arith}
+use Rattle.std.proofs.Common.{◌≡◌, ℕ, zero, suc, ◌+◌, ◌*◌, ◌/◌, ◌%◌, ◌<◌, ◌≤◌, true, false, cond, eqb, List, length, get_or, take, sym, refl, ap, ◌∙◌, subst, inl, inr, ⊎_elim, arith}
 use Rattle.std.proofs.lemmas.List.{get_or-take, length-take-le}
 use Rattle.std.proofs.lemmas.Bool.{cases_lt, cases_eq}
 use Rattle.rack.specs.declared.cable.Cable.{Cable}
@@ -42,17 +42,17 @@ pub none_leaves : (cs : List Cable) (e : End) → FreeEnd cs e → (c : ℕ) →
 none_leaves cs e free c h = free (c / 2) (omega (arith, h.0)) (subst (EndsAt (get_or cs (c / 2) none)) h.1 (tail_ends cs c))
 
 -- the first k cables end at ports of their own
-abbrev pub ApartBelow : List Cable → ℕ → Type 0
+abbrev ApartBelow : List Cable → ℕ → Type 0
 ApartBelow cs k = (b c : ℕ) → (b < 2 * k) × (c < 2 * k) × (tail_end cs b ≡ tail_end cs c) → b ≡ c
 
 -- none of the first k cables ends there
-abbrev pub FreeBelow : List Cable → ℕ → End → Type 0
+abbrev FreeBelow : List Cable → ℕ → End → Type 0
 FreeBelow cs k e = (j : ℕ) → j < k → EndsAt (get_or cs j none) e → ⊥
 
-pub free_front : (cs : List Cable) (m k : ℕ) (e : End) → m ≡ k → k ≤ length cs → FreeEnd (take m cs) e → FreeBelow cs k e
-free_front cs m k e is within free j h at =
-    let long = length-take-le m cs (omega arith) in
-    free j (omega arith) (subst (λ d. EndsAt d e) (sym (get_or-take m cs j none (omega arith))) at)
+free_front : (cs : List Cable) (k : ℕ) (e : End) → k ≤ length cs → FreeEnd (take k cs) e → FreeBelow cs k e
+free_front cs k e within free j h at =
+    let long = length-take-le k cs within in
+    free j (omega arith) (subst (λ d. EndsAt d e) (sym (get_or-take k cs j none h)) at)
 
 -- a channel of the first k cables, and one of cable k
 apart_old_new : (cs : List Cable) (k b c : ℕ) → b < 2 * k → c / 2 ≡ k → FreeBelow cs k (get_or cs k none).first → FreeBelow cs k (get_or cs k none).second → tail_end cs b ≡ tail_end cs c → ⊥
@@ -82,9 +82,9 @@ apart_new cs k b c differ at at' same =
     (cases_eq (c % 2) 0))
     (cases_eq (b % 2) 0)
 
-pub apart_more :
+apart_more :
     (cs : List Cable) (k : ℕ) → ((get_or cs k none).first.node.0 ≡ (get_or cs k none).second.node.0 → ⊥) →
-    FreeBelow cs k (get_or cs k none).first → FreeBelow cs k (get_or cs k none).second → ApartBelow cs k → ApartBelow cs (k + 1)
+    FreeBelow cs k (get_or cs k none).first → FreeBelow cs k (get_or cs k none).second → ApartBelow cs k → ApartBelow cs (suc k)
 apart_more cs k differ free free' old b c h =
     ⊎_elim
     (λ (l : b < 2 * k).
@@ -100,10 +100,29 @@ apart_more cs k differ free free' old b c h =
     (cases_lt b (2 * k))
 
 -- no cable before cable k ends where it does
-pub apart_free : (cs : List Cable) (m k : ℕ) (e : End) → m ≡ k → k < length cs → EndsAt (get_or cs k none) e → Apart cs → FreeEnd (take m cs) e
-apart_free cs m k e is h at apart j l at' =
-    let long = length-take-le m cs (omega arith) in
-    let b = ends_tail cs j e (subst (λ d. EndsAt d e) (get_or-take m cs j none (omega arith)) at') in
+apart_free : (cs : List Cable) (k : ℕ) (e : End) → k < length cs → EndsAt (get_or cs k none) e → Apart cs → FreeEnd (take k cs) e
+apart_free cs k e h at apart j l at' =
+    let long = length-take-le k cs (omega arith) in
+    let b = ends_tail cs j e (subst (λ d. EndsAt d e) (get_or-take k cs j none (omega arith)) at') in
     let c = ends_tail cs k e at in
     let same = apart b.0 c.0 (omega (arith, b.1), omega (arith, c.1), b.2 ∙ sym c.2) in
     omega (arith, b.1, c.1, ap (λ n. n / 2) same)
+
+-- none of the cables ends where the cable does
+abbrev pub IsFree : List Cable → Cable → Type 0
+IsFree cs c = FreeEnd cs c.first × FreeEnd cs c.second
+
+-- cables, each between two different nodes and none where one before it ends, are at ports of their own
+module _ (cs : List Cable) (differ : (k : ℕ) → k < length cs → (get_or cs k none).first.node.0 ≡ (get_or cs k none).second.node.0 → ⊥) (free : (k : ℕ) → k < length cs → IsFree (take k cs) (get_or cs k none)) where
+  apart_below : (k : ℕ) → k ≤ length cs → ApartBelow cs k
+  apart_below zero within = λ b c h. absurd (omega (arith, h.0))
+  apart_below (suc k) within =
+      let here = free k (omega arith) in
+      apart_more cs k (differ k (omega arith)) (free_front cs k _ (omega arith) here.0) (free_front cs k _ (omega arith) here.1) (apart_below k (omega arith))
+
+  pub apart_from_free : Apart cs
+  apart_from_free = apart_below (length cs) (omega arith)
+
+-- and where they are, none ends where one before it does
+pub free_from_apart : (cs : List Cable) → Apart cs → (k : ℕ) → k < length cs → IsFree (take k cs) (get_or cs k none)
+free_from_apart cs apart k h = (apart_free cs k _ h (inl refl) apart, apart_free cs k _ h (inr refl) apart)

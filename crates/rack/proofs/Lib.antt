@@ -1,6 +1,7 @@
 pub mod ShownTables
 pub mod Channels
 pub mod Facts
+pub mod Same
 pub mod Lists
 pub mod Searches
 mod Chains

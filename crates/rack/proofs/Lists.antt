@@ -4,19 +4,13 @@ use Rattle.std.proofs.lemmas.List.{get_or-set_same, get_or-set_other, get_or-map
 use Rattle.std.proofs.lemmas.Bool.{cases_eq, ne_eqb}
 use Rattle.std.proofs.lemmas.List.Elements.{All-push, Contains-append_left, Contains-push}
 use Rattle.std.proofs.lemmas.List.Quantifiers.{all_pairs_push}
-use Rattle.std.specs.List.{All, AllPairs, Contains}
+use Rattle.std.specs.List.{Contains}
 use Rattle.rack.specs.declared.cable.Cable.{Cable}
 use Rattle.rack.specs.declared.numbers.Channel.{Channel}
 use Rattle.rack.specs.declared.rack.Rack.{Rack}
 use Rattle.rack.specs.Network.{tail_end}
 use Rattle.rack.specs.Racks.{cables_of, channel_count, Leaving}
-use Rattle.rack.specs.Index.{leaving_below, list_of}
-
--- the list has the channels that are P, in ascending order
-pub record Lists (P : ℕ → Type 0) (list : List Channel) : Type 0 where
-  pub each : All (λ c. P c.0) list
-  pub every : (c : Channel) → P c.0 → Contains list c
-  pub ascending : AllPairs (λ b c. b.0 < c.0) list
+use Rattle.rack.specs.Index.{leaving_below, list_of, Lists}
 
 -- channel c is below n and leaves node v
 abbrev LeavesBelow : List Cable → ℕ → ℕ → ℕ → Type 0

@@ -10,7 +10,7 @@ use Rattle.rack.specs.declared.rack.Rack.{Rack}
 use Rattle.rack.specs.Network.{Leaves}
 use Rattle.rack.specs.Racks.{cables_of, tail, head, Host, Leaving, Entering, EntersSwitch, back}
 use Rattle.rack.proofs.Facts as facts
-use Rattle.rack.proofs.Lists.{Lists}
+use Rattle.rack.specs.Index.{Lists}
 
 module _ (P : ℕ → Type 0) (list : List Channel) (all : Lists P list) where
   -- the search for the first from n on found nothing

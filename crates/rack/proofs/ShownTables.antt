@@ -1,8 +1,6 @@
--- Tables that show a list, and tables written in front. Assumes nothing.
-use Rattle.std.proofs.Common.{◌≡◌, ℕ, ◌<◌, ◌≤◌, ◌≢◌, ◌⊎◌, List, [], ◌∷◌, ◌++◌, length, get_or, take, drop, set, replicate, sym, ap, ◌∙◌, ⊎_elim, arith}
-use borrow.Rule.Slice.PartMut.{post_of}
-use Rattle.std.proofs.lemmas.List.{get_or-set_same, get_or-set_other, get_or_push, get_or_past, get_or_append_left, get_or-take, length_push, length-take-le, ext_get_or, take-append-le, take_all}
-use Rattle.std.proofs.lemmas.Slice.{drop-append-drop}
+-- Tables that show a list. Assumes nothing.
+use Rattle.std.proofs.Common.{◌≡◌, ℕ, ◌<◌, ◌≤◌, ◌≢◌, ◌⊎◌, List, [], ◌∷◌, ◌++◌, length, get_or, take, set, replicate, sym, ap, ◌∙◌, ⊎_elim, arith}
+use Rattle.std.proofs.lemmas.List.{get_or-set_same, get_or-set_other, get_or_push, get_or_past, get_or_append_left, get_or-take, length_push, length-take-le, ext_get_or}
 use Rattle.std.proofs.lemmas.Simd.{length-replicate, get_or-replicate}
 use Rattle.std.proofs.lemmas.Bool.{cases_lt, cases_order}
 use Rattle.rack.specs.declared.cable.Cable.{Cable}
@@ -44,11 +42,3 @@ all_one table n x d is same k =
     (λ (low : k < n). get_or-replicate n k x d low ∙ same)
     (λ (high : n ≤ k). get_or_past (replicate n x) k d (rw length-replicate (omega arith)))
     (cases_lt k n)
-
--- a table whose first n places are written: what they hold
-pub written_front : {X : Type 0} (n : ℕ) (part rest : List X) → length part ≡ n → take n (part ++ rest) ≡ part
-written_front n part rest long = take-append-le n part rest (omega arith) ∙ take_all n part (omega arith)
-
--- and that the others hold what they held
-pub written_beyond : {X : Type 0} (n : ℕ) (part xs : List X) → length part ≡ n → drop n (part ++ post_of 0 n xs) ≡ drop n xs
-written_beyond n part xs long = drop-append-drop n xs part n (omega arith) long

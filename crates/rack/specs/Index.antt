@@ -1,9 +1,16 @@
 -- Which channels a rack lists for each node. Assumes nothing.
-use Rattle.std.specs.Prelude.{◌≡◌, ℕ, zero, suc, ◌==◌, cond, List, [], ◌∷◌, ◌++◌, length, map, slice_index_or, Vec}
+use Rattle.std.specs.Prelude.{◌≡◌, ℕ, zero, suc, ◌<◌, ◌==◌, cond, List, [], ◌∷◌, ◌++◌, length, map, slice_index_or, Vec}
 use Rattle.std.specs.declared.alloc.Global.{Global}
+use Rattle.std.specs.List.{All, AllPairs, Contains}
 use Rattle.rack.specs.declared.cable.Cable.{Cable}
 use Rattle.rack.specs.declared.numbers.Channel.{Channel}
 use Rattle.rack.specs.Network.{channels, tail_end}
+
+-- the list has the channels that are P, in ascending order
+pub record Lists (P : ℕ → Type 0) (list : List Channel) : Type 0 where
+  pub each : All (λ c. P c.0) list
+  pub every : (c : Channel) → P c.0 → Contains list c
+  pub ascending : AllPairs (λ b c. b.0 < c.0) list
 
 -- the channels below n that leave node v, in ascending order
 abbrev pub leaving_below : List Cable → ℕ → ℕ → List Channel

@@ -25,13 +25,11 @@ pub fn kind_of(nodes: &[u8], node: Node) -> Option<Kind>
 fn has_port(nodes: &[u8], end: End) -> bool
     ensures { Decides result (Port nodes.now end) }
 {
-    match kind_of(nodes, end.node) {
-        Some(kind) => (1..=kind.ports()).contains(&end.port.0),
-        None => false,
-    }
+    kind_of(nodes, end.node).is_some_and(|kind| (1..=kind.ports()).contains(&end.port.0))
 }
 
 // Whether the node is a host.
+// Of one shape with `is_switch_at`: each is one question, and its clause has the subject's own word; one for any `Kind` would speak of `code kind`.
 pub fn is_host_at(nodes: &[u8], node: Node) -> bool
     ensures { Decides result (HostAt nodes.now node.0) }
 {

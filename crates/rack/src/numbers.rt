@@ -14,6 +14,7 @@ pub struct Port(pub u8);
 pub struct Channel(pub u16);
 
 // A number from 0 to `LAST`.
+// No `Model`: clauses name its one field, as they name that of a `Node` or a `Channel`, and its bound is a ghost field.
 #[derive(Clone, Copy, PartialEq, Eq, Debug)]
 pub struct UpTo<const LAST: u8> {
     number: u8,
@@ -27,9 +28,12 @@ pub type Lane = UpTo<7>;
 pub type Level = UpTo<15>;
 
 impl<const LAST: u8> UpTo<LAST> {
+    // The number as one of the type; none if it is above `LAST`.
+    // No `TryFrom`: its error would be a type that says no more than none.
     pub fn new(number: u8) -> Option<UpTo<LAST>>
         ensures { MatchOption result (LAST < number) (λ l. l.number ≡ number) }
     {
+        // no `then`: its closure does not know the bound
         if number <= LAST {
             Some(UpTo { number })
         } else {
@@ -44,6 +48,7 @@ impl<const LAST: u8> UpTo<LAST> {
         UpTo { number: 0 }
     }
 
+    // Its number. No `From` for `u8`: callers would write `usize::from(u8::from(lane))`, and the two clauses would be one.
     pub fn number(self) -> u8
         ensures same { result ≡ self.entry.number }
         ensures within { result ≤ LAST }

@@ -29,17 +29,17 @@ fn node_record(kind: u8, v: u16) -> [u8; 8] {
 impl From<Line> for [u8; 8] {
     fn from(line: Line) -> [u8; 8] {
         match line {
-            Line::Host(v) => node_record(72, v),
-            Line::Switch(v) => node_record(83, v),
+            Line::Host(v) => node_record(b'H', v),
+            Line::Switch(v) => node_record(b'S', v),
             Line::Joins(v, p, w, q) => {
                 let [v_high, v_low] = v.to_be_bytes();
                 let [w_high, w_low] = w.to_be_bytes();
-                [67, v_high, v_low, p, w_high, w_low, q, 0]
+                [b'C', v_high, v_low, p, w_high, w_low, q, 0]
             }
             Line::Forwards(w, v, p) => {
                 let [w_high, w_low] = w.to_be_bytes();
                 let [v_high, v_low] = v.to_be_bytes();
-                [70, w_high, w_low, v_high, v_low, p, 0, 0]
+                [b'F', w_high, w_low, v_high, v_low, p, 0, 0]
             }
             Line::Bytes(raw) => raw,
         }

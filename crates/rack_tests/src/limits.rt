@@ -17,11 +17,8 @@ fn counts(nodes: usize, cables: usize) -> Counts {
 // As many switches, and then as many cables, each from a port of one of the lower half to the same port of one of the upper half.
 fn laid(heap: Global, half: u16, cables: u16) -> Result<Vec<u8>, AllocError> {
     let mut out = Vec::new(heap);
-    for v in 0..half {
+    for v in 0..half.saturating_add(half) {
         add(&mut out, Switch(v))?;
-    }
-    for v in 0..half {
-        add(&mut out, Switch(v.saturating_add(half)))?;
     }
     for k in 0..cables {
         let v = k / 36;

@@ -5,5 +5,6 @@ pub mod RingFree
 mod Tables
 mod Turning
 mod Settling
+mod Seeking
 mod Walking
 mod Answering

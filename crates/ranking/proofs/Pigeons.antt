@@ -42,7 +42,3 @@ ring_within f n within at len o i l = go (ℕ_discrete (i + 1) len)
         let same : i ≡ len - 1 = omega arith in
         subst (λ j. at j < n) (sym same) (within (at (len - 1)) (at 0) o.closes).0
     go (no ne) = (within (at i) (at (i + 1)) (o.steps i (omega arith))).0
-
--- a ring of a relation within n has at most n points
-pub ring_short : (f : ℕ → ℕ → Type 0) (n : ℕ) → Within f n → (at : ℕ → ℕ) (len : ℕ) → IsRing f at len → len ≤ n
-ring_short f n within at len o = pigeonhole n at len (ring_within f n within at len o) o.apart

@@ -14,12 +14,7 @@ fn before<G: Graph>(graph: &G, ranks: &[u16], y: u16, top: u16) -> Option<u16>
     ensures { MatchOption result ((x : ℕ) → top ≤ slice_index ranks.now x → G.follows graph.now x y → ⊥) (λ x. (top ≤ slice_index ranks.now x) × G.follows graph.now x y) }
 {
     let back = Reversed(graph);
-    for x in Followers::of(&back, y) {
-        if ranks[x as usize] >= top {
-            return Some(x);
-        }
-    }
-    None
+    Followers::of(&back, y).find(|x| ranks[usize::from(*x)] >= top)
 }
 
 // The first and the last mark of a ring.

@@ -18,7 +18,7 @@ use Rattle.rack.specs.Kinds.{code}
 use Rattle.reading.specs.Rules.{Described, Kept, asked, grown, described, Fine, Shown, Names, nothing, Answers}
 use Rattle.rack.proofs.Channels.{tail_even, tail_odd, none_leaves}
 use Rattle.rack.proofs.ShownTables.{shows_front}
-use Rattle.reading.proofs.OneMore.{Bounds, bounds_more}
+use Rattle.reading.proofs.OneMore.{Bounds, bounds_more, front}
 
 -- each element of xs and y has P
 pub each_push : {X : Type 0} (P : X → Type 0) (xs : List X) (y d : X) → ((k : ℕ) → k < length xs → P (get_or xs k d)) → P y → (k : ℕ) → k < length (xs ++ y ∷ []) → P (get_or (xs ++ y ∷ []) k d)
@@ -174,7 +174,7 @@ begins net counts nodes cables forwarding good s =
       omega (arith, s.node_count),
       omega (arith, s.cable_count),
       shows_front net.nodes nodes 0 counts.nodes s.node_count (omega (arith, s.node_count)) s.node,
-      shows_front net.cables cables none counts.cables s.cable_count (omega (arith, s.cable_count)) s.cable,
+      front s (omega (arith, s.cable_count)),
     )
 
 module _ (limits : Limits) (f : List ℕ) (counts : Counts) (nodes : List ℕ) (cables : List Cable) (forwarding : List ℕ) where

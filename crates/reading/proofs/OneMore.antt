@@ -1,4 +1,4 @@
--- What one more record describes, and its bounds. Assumes nothing.
+-- What one more record describes, and its bounds, and what tables that show it hold. Assumes nothing.
 use Rattle.std.proofs.Common.{◌≡◌, ℕ, ◌+◌, ◌≤◌, List, length, take, Some, None, Option, sym, ◌∙◌, subst, add-one, arith}
 use Rattle.std.proofs.lemmas.List.{length_push}
 use Rattle.reading.specs.declared.add.Counts.{Counts}
@@ -25,13 +25,14 @@ bounds_more limits net i (Some (Node kind v)) kept b = (omega (arith, length_pus
 bounds_more limits net i (Some (Joins c)) kept b = (b.0, omega (arith, length_push net.cables c, kept.1.0, limits.few), omega (arith, b.2))
 bounds_more limits net i (Some (Forwards e)) kept b = (b.0, b.1, omega (arith, length_push net.entries e, b.2))
 
--- a host is without a cable in the tables, of whose cables the first n are laid, where it is in what they show
-pub lonely_alike :
-    (net : Described) (counts : Counts) (nodes : List ℕ) (cables : List Cable) (forwarding : List ℕ) (n : ℕ) →
-    Shown net counts nodes cables forwarding → n ≡ counts.cables → n ≤ length cables → (v : ℕ) →
-    (Lonely nodes (take n cables) v → Alone net v) × (Alone net v → Lonely nodes (take n cables) v)
-lonely_alike net counts nodes cables forwarding n s is within v =
-    let front : take n cables ≡ net.cables = shows_front net.cables cables none n (is ∙ s.cable_count) within s.cable in (
-      λ h. (sym (s.node v) ∙ h.0, subst (λ l. Uncabled l v) front h.1),
-      λ h. (s.node v ∙ h.0, subst (λ l. Uncabled l v) (sym front) h.1),
-    )
+module _ {net : Described} {counts : Counts} {nodes : List ℕ} {cables : List Cable} {forwarding : List ℕ} (s : Shown net counts nodes cables forwarding) (within : counts.cables ≤ length cables) where
+  -- the first cables of the table are those described
+  pub front : take counts.cables cables ≡ net.cables
+  front = shows_front net.cables cables none counts.cables s.cable_count within s.cable
+
+  -- a host is without a cable among them where it is in what is described
+  pub lonely_alike : (v : ℕ) → (Lonely nodes (take counts.cables cables) v → Alone net v) × (Alone net v → Lonely nodes (take counts.cables cables) v)
+  lonely_alike v = (
+    λ h. (sym (s.node v) ∙ h.0, subst (λ l. Uncabled l v) front h.1),
+    λ h. (s.node v ∙ h.0, subst (λ l. Uncabled l v) (sym front) h.1),
+  )

@@ -120,10 +120,6 @@ Answers limits f (Err (Bare v)) nodes cables forwarding =
 abbrev pub Sized : List ℕ → List Cable → List ℕ → Type 0
 Sized nodes cables forwarding = (128 ≤ length nodes) × (256 ≤ length cables) × (16384 ≤ length forwarding)
 
--- the tables have just those places
-abbrev pub Fitting : List ℕ → List Cable → List ℕ → Type 0
-Fitting nodes cables forwarding = (length nodes ≡ 128) × (length cables ≡ 256) × (length forwarding ≡ 16384)
-
 -- there are no more nodes and cables than the tables have places, and one entry more can be counted
 abbrev pub CountsFit : Counts → Type 0
 CountsFit counts = (counts.nodes ≤ 128) × (counts.cables ≤ 256) × (counts.entries < 2 ^ 61)

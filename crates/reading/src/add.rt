@@ -4,13 +4,13 @@ ghost use Rattle.rack.specs.Network.{Leaves};
 ghost use Rattle.reading.specs.Rules.{Described, Shown, Judged, CountsFit};
 
 use crate::fault::Rule;
-use crate::limits::Limits;
+use crate::limits::{CABLES, FORWARDING, Limits, NODES};
 use crate::record::{Entry, Kind, Record};
 use rack::cable::{Cable, End};
 use rack::ends::{cable_at, is_free, is_host_at, is_switch_at, joins_ports};
 use rack::numbers::{Channel, Node};
 
-// How many records of each group there are.
+// How many records of each group there are. Not in one struct with the tables: those are lent, and the counts are the answer that the caller gets.
 #[derive(Clone, Copy, PartialEq, Eq, Debug)]
 pub struct Counts {
     pub nodes: usize,
@@ -20,12 +20,11 @@ pub struct Counts {
 
 pub(crate) fn add_node(
     limits: Limits,
-    nodes: &mut [u8],
+    nodes: &mut [u8; NODES],
     counts: Counts,
     kind: Kind,
     number: Node,
 ) -> Result<Counts, Rule>
-    requires { length nodes.old ≡ 128 }
     ensures { (net : Described) (cables : List Cable) (forwarding : List ℕ) → Shown net counts nodes.old cables forwarding → Judged limits net (Some (Record.Node kind number)) result nodes.new cables forwarding }
 {
     if counts.cables > 0 || counts.entries > 0 {
@@ -40,19 +39,17 @@ pub(crate) fn add_node(
     nodes[counts.nodes] = u8::from(kind);
     Ok(Counts {
         nodes: counts.nodes + 1,
-        cables: 0,
-        entries: 0,
+        ..counts
     })
 }
 
 pub(crate) fn add_cable(
     limits: Limits,
-    nodes: &[u8],
-    cables: &mut [Cable],
+    nodes: &[u8; NODES],
+    cables: &mut [Cable; CABLES],
     counts: Counts,
     cable: Cable,
 ) -> Result<Counts, Rule>
-    requires { length cables.old ≡ 256 }
     ensures { (net : Described) (forwarding : List ℕ) → Shown net counts nodes.now cables.old forwarding → Judged limits net (Some (Record.Joins cable)) result nodes.now cables.new forwarding }
 {
     if counts.entries > 0 {
@@ -70,13 +67,12 @@ pub(crate) fn add_cable(
     }
     cables[count] = cable;
     Ok(Counts {
-        nodes: counts.nodes,
         cables: count + 1,
-        entries: 0,
+        ..counts
     })
 }
 
-// The channel that leaves by the port, if a cable ends there.
+// The channel that leaves by the port, if a cable ends there. The cables are the front of a table, and no type says how many they are.
 fn channel(cables: &[Cable], end: End) -> Option<Channel>
     requires { length cables.now ≤ 256 }
     ensures { MatchOption result ((c : ℕ) → Leaves cables.now end c → ⊥) (λ c. Leaves cables.now end c.0) }
@@ -87,6 +83,7 @@ fn channel(cables: &[Cable], end: End) -> Option<Channel>
 }
 
 // The place of the pair in the forwarding table of a file with that many nodes.
+// Routing has `Pair::place` for it, which asks a `Rack`: there is none yet, and reading does not stand on routing.
 fn place(nodes: usize, switch: Node, host: Node) -> usize
     requires { nodes ≤ 128 }
     ensures { result ≡ nodes * switch.0 + host.0 }
@@ -95,14 +92,12 @@ fn place(nodes: usize, switch: Node, host: Node) -> usize
 }
 
 pub(crate) fn add_entry(
-    nodes: &[u8],
-    cables: &[Cable],
-    forwarding: &mut [u16],
+    nodes: &[u8; NODES],
+    cables: &[Cable; CABLES],
+    forwarding: &mut [u16; FORWARDING],
     counts: Counts,
     entry: Entry,
 ) -> Result<Counts, Rule>
-    requires cables { length cables.now ≡ 256 }
-    requires forwarding { length forwarding.old ≡ 16384 }
     requires counts { CountsFit counts }
     requires beyond { (k : ℕ) → counts.nodes ≤ k → slice_index nodes.now k ≡ 0 }
     ensures { (limits : Limits) (net : Described) → Shown net counts nodes.now cables.now forwarding.old → Judged limits net (Some (Record.Forwards entry)) result nodes.now cables.now forwarding.new }
@@ -122,8 +117,7 @@ pub(crate) fn add_entry(
     }
     forwarding[at] = leaving.0 + 1;
     Ok(Counts {
-        nodes: counts.nodes,
-        cables: count,
         entries: counts.entries + 1,
+        ..counts
     })
 }

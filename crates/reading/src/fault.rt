@@ -48,6 +48,7 @@ impl Rule {
 }
 
 impl FileFault {
+    // The number by which the file is refused. Named, as that of a rule is, so that the faults of all layers are asked in the same words.
     pub fn number(self) -> u8
         ensures { (file_refusal self).number ≡ Some result }
     {

@@ -2,26 +2,25 @@
 ghost use Rattle.std.specs.Prelude.{◌≡◌, ℕ, ◌≤◌, false, take, drop, is_ok, IfOk, Err, slice_index};
 ghost use Rattle.rack.specs.Network.{KeepsRules};
 ghost use Rattle.reading.specs.Format.{decoded};
-ghost use Rattle.reading.specs.Rules.{Described, Shown, Judged, Answers, Sized, Fitting, CountsFit, Blank};
+ghost use Rattle.reading.specs.Rules.{Described, Shown, Judged, Answers, Sized, CountsFit, Blank};
 
 use crate::add::{Counts, add_cable, add_entry, add_node};
 use crate::fault::{FileFault, Rule};
-use crate::limits::Limits;
+use crate::limits::{CABLES, FORWARDING, Limits, NODES};
 use crate::record::{Record, decode};
 use rack::cable::Cable;
 use rack::ends::lonely_host;
 
 // Adds the record that the bytes spell.
-// The three tables stay lent slices: a struct that held them beside the fact that they fit is not covered by the borrow checker.
+// The three tables are lent one by one: a struct of the three would ensure in each method that it still lends the same ones.
 fn step(
     bytes: &[u8],
     limits: Limits,
-    nodes: &mut [u8],
-    cables: &mut [Cable],
-    forwarding: &mut [u16],
+    nodes: &mut [u8; NODES],
+    cables: &mut [Cable; CABLES],
+    forwarding: &mut [u16; FORWARDING],
     counts: Counts,
 ) -> Result<Counts, Rule>
-    requires tables { Fitting nodes.old cables.old forwarding.old }
     requires counts { CountsFit counts }
     requires beyond { (k : ℕ) → counts.nodes ≤ k → slice_index nodes.old k ≡ 0 }
     ensures { (net : Described) → Shown net counts nodes.old cables.old forwarding.old → Judged limits net (decoded bytes.now) result nodes.new cables.new forwarding.new }
@@ -38,11 +37,10 @@ fn step(
 fn fill(
     file: &[u8],
     limits: Limits,
-    nodes: &mut [u8],
-    cables: &mut [Cable],
-    forwarding: &mut [u16],
+    nodes: &mut [u8; NODES],
+    cables: &mut [Cable; CABLES],
+    forwarding: &mut [u16; FORWARDING],
 ) -> Result<Counts, FileFault>
-    requires tables { Fitting nodes.old cables.old forwarding.old }
     requires blank { Blank nodes.old cables.old forwarding.old }
     ensures { Answers limits file.now result nodes.new cables.new forwarding.new }
 {
@@ -61,14 +59,13 @@ fn fill(
             Err(rule) => return Err(FileFault::Record { record, rule }),
         }
     }
-    let laid = counts.cables;
-    match lonely_host(nodes, &cables[0..laid]) {
+    match lonely_host(nodes, &cables[..counts.cables]) {
         Some(host) => Err(FileFault::Uncabled { host }),
         None => Ok(counts),
     }
 }
 
-fn wipe(nodes: &mut [u8], cables: &mut [Cable], forwarding: &mut [u16])
+fn wipe(nodes: &mut [u8; NODES], cables: &mut [Cable; CABLES], forwarding: &mut [u16; FORWARDING])
     ensures { Blank nodes.new cables.new forwarding.new }
 {
     nodes.fill(0);
@@ -80,11 +77,10 @@ fn wipe(nodes: &mut [u8], cables: &mut [Cable], forwarding: &mut [u16])
 fn fill_or_wipe(
     file: &[u8],
     limits: Limits,
-    nodes: &mut [u8],
-    cables: &mut [Cable],
-    forwarding: &mut [u16],
+    nodes: &mut [u8; NODES],
+    cables: &mut [Cable; CABLES],
+    forwarding: &mut [u16; FORWARDING],
 ) -> Result<Counts, FileFault>
-    requires tables { Fitting nodes.old cables.old forwarding.old }
     ensures answers { Answers limits file.now result nodes.new cables.new forwarding.new }
     ensures blank { is_ok result ≡ false → Blank nodes.new cables.new forwarding.new }
 {
@@ -113,14 +109,8 @@ pub fn read(
     ensures rules { IfOk result (λ counts. KeepsRules (take counts.nodes nodes.new) (take counts.cables cables.new)) }
     ensures few { IfOk result (λ counts. (counts.nodes ≤ 128) × (counts.cables ≤ 256)) }
 {
-    if nodes.len() < 128 || cables.len() < 256 || forwarding.len() < 16384 {
-        return Err(FileFault::Tables);
-    }
-    fill_or_wipe(
-        file,
-        limits,
-        &mut nodes[0..128],
-        &mut cables[0..256],
-        &mut forwarding[0..16384],
-    )
+    let nodes = nodes.first_chunk_mut().ok_or(FileFault::Tables)?;
+    let cables = cables.first_chunk_mut().ok_or(FileFault::Tables)?;
+    let forwarding = forwarding.first_chunk_mut().ok_or(FileFault::Tables)?;
+    fill_or_wipe(file, limits, nodes, cables, forwarding)
 }

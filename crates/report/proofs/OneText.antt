@@ -17,7 +17,7 @@ use Rattle.checking.specs.Plans.{level_at, Follows}
 use Rattle.builder.specs.declared.fault.BuildFault.{BuildFault}
 use Rattle.builder.specs.Method.{Tables, tables, blank}
 use Rattle.builder.specs.Outcomes.{FirstLacks}
-use Rattle.builder.proofs.Pathed.{into_host}
+use Rattle.routing.proofs.Rounds.{into_host}
 use Rattle.builder.proofs.Single.{one_all, one_first, built_lacks}
 use Rattle.planning.specs.Plans.{planned}
 use Rattle.report.specs.declared.refusal.Refusal.{Refusal}
@@ -34,7 +34,7 @@ use Rattle.report.proofs.SameRoutes.{same_limits, same_forwarding}
 no_later : (g : Routing) (u v s m n : ℕ) → PairOf g.rack u v → EndsAtHop g u v s m → EndsAtHop g u v s n → m < n → ⊥
 no_later g u v s m n pair a b l =
     let on = a.1 in
-    hop_last g v s on.0 m n a.0 b.0 on.2 (into_host g.rack a.0.channel v pair.1 a.3) l (from_first g u v s on.0 n b.0 pair.0 on.1 b.1)
+    hop_last g v s on.0 m n a.0 b.0 on.2 (into_host g a.0.channel v pair.1 a.3) l (from_first g u v s on.0 n b.0 pair.0 on.1 b.1)
 
 one_end : (g : Routing) (u v s m n : ℕ) → PairOf g.rack u v → EndsAtHop g u v s m → EndsAtHop g u v s n → m ≡ n
 one_end g u v s m n pair a b =

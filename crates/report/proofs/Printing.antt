@@ -1,24 +1,48 @@
--- Texts put one behind the other. Assumes nothing.
-use Rattle.std.proofs.Common.{ℕ, suc, ◌+◌, List, [], ◌++◌, sym, refl, ap, ◌∙◌, subst, inr, append_assoc, append-nil, add-one}
+-- The lines of the pairs in their order, one more at a time. Assumes nothing.
+use Rattle.std.proofs.Common.{◌≡◌, ℕ, suc, ◌+◌, None, Some, List, [], ◌++◌, sym, refl, ap, ◌∙◌, subst, inl, inr, append_assoc, append-nil}
 use Rattle.rack.specs.Racks.{node_count}
+use Rattle.routing.specs.declared.pair.Pair.{Pair}
 use Rattle.routing.specs.Paths.{Routing, PairOf}
-use Rattle.report.specs.Lines.{Adds, Printed, ReceiversPrinted, SendersPrinted}
+use Rattle.routing.specs.Pairs.{pair_place, NextPair}
+use Rattle.routing.proofs.PairOrder.{Taken, taken_start, taken_next, taken_more, taken_end}
+use Rattle.report.specs.Lines.{Adds, LineOf, Printed, ReceiversPrinted, SendersPrinted, AllPrinted}
 
--- the rows below a number were added, and then its own
-rows_more :
-    (rows : ℕ → List ℕ → Type 0) (row : List ℕ → Type 0) (u : ℕ) → ((text : List ℕ) → (before : List ℕ) × rows u before × Adds row before text → rows (suc u) text) →
-    (x y z : List ℕ) → Adds (rows u) x y → Adds row y z → Adds (rows (u + 1)) x z
-rows_more rows row u join x y z a b =
-    subst (λ n. Adds (rows n) x z) (sym (add-one u))
-    (a.0 ++ b.0, join (a.0 ++ b.0) (a.0, a.1, (b.0, b.1, refl)), b.2 ∙ ap (λ t. t ++ b.0) a.2 ∙ append_assoc x a.0 b.0)
+-- a text that P holds of was added, and then one that Q holds of
+adds_both : (P Q : List ℕ → Type 0) (x y z : List ℕ) → Adds P x y → Adds Q y z → Adds (λ text. (before : List ℕ) × P before × Adds Q before text) x z
+adds_both P Q x y z a b = (a.0 ++ b.0, (a.0, a.1, (b.0, b.1, refl)), b.2 ∙ ap (λ t. t ++ b.0) a.2 ∙ append_assoc x a.0 b.0)
 
-module _ (g : Routing) (levels : List ℕ) where
-  pub receivers_more : (u v : ℕ) (x y z : List ℕ) → Adds (ReceiversPrinted g levels u v) x y → Adds (Printed g levels u v) y z → Adds (ReceiversPrinted g levels u (v + 1)) x z
-  receivers_more u v = rows_more (ReceiversPrinted g levels u) (Printed g levels u v) v (λ t p. p)
+-- P holds of no text, and nothing was added
+nothing : (P : List ℕ → Type 0) (x : List ℕ) → P [] → Adds P x x
+nothing P x p = ([], p, sym (append-nil x))
 
-  -- what is no pair adds nothing
-  pub nothing_printed : (u v : ℕ) (x : List ℕ) → (PairOf g.rack u v → ⊥) → Adds (Printed g levels u v) x x
-  nothing_printed u v x none = ([], inr (none, refl), sym (append-nil x))
+module _ (g : Routing) (levels initial : List ℕ) where
+  -- printed are the senders below u, and of u the receivers below v
+  abbrev pub SoFar : List ℕ → ℕ → ℕ → Type 0
+  SoFar now u v = (mid : List ℕ) × Adds (SendersPrinted g levels u) initial mid × Adds (ReceiversPrinted g levels u v) mid now
 
-  pub senders_more : (u : ℕ) (x y z : List ℕ) → Adds (SendersPrinted g levels u) x y → Adds (ReceiversPrinted g levels u (node_count g.rack)) y z → Adds (SendersPrinted g levels (u + 1)) x z
-  senders_more u = rows_more (SendersPrinted g levels) (ReceiversPrinted g levels u (node_count g.rack)) u (λ t p. p)
+  pub row : (now : List ℕ) (u : ℕ) → SoFar now u (node_count g.rack) → SoFar now (suc u) 0
+  row now u h = (now, adds_both (SendersPrinted g levels u) (ReceiversPrinted g levels u (node_count g.rack)) initial h.0 now h.1 h.2, nothing (ReceiversPrinted g levels (suc u) 0) now refl)
+
+  printed : (was now : List ℕ) (u v : ℕ) → SoFar was u v → Adds (Printed g levels u v) was now → SoFar now u (suc v)
+  printed was now u v h one = (h.0, h.1, adds_both (ReceiversPrinted g levels u v) (Printed g levels u v) h.0 was now h.2 one)
+
+  pub skip : (now : List ℕ) (u v : ℕ) → (PairOf g.rack u v → ⊥) → SoFar now u v → SoFar now u (suc v)
+  skip now u v none h = printed now now u v h (nothing (Printed g levels u v) now (inr (none, refl)))
+
+  -- the pairs before a place are printed
+  abbrev pub PrintedFrom : ℕ → List ℕ → Type 0
+  PrintedFrom from now = Taken g.rack (SoFar now) (row now) (skip now) from
+
+  pub pairs_start : PrintedFrom 0 initial
+  pairs_start = taken_start g.rack (SoFar initial) (row initial) (skip initial) (initial, nothing (SendersPrinted g levels 0) initial refl, nothing (ReceiversPrinted g levels 0 0) initial refl)
+
+  pub pairs_more : (from : ℕ) (p : Pair) (was now : List ℕ) → NextPair g.rack from (Some p) → PrintedFrom from was → Adds (LineOf g levels p.sender.0 p.receiver.0) was now → PrintedFrom (pair_place g.rack p.sender.0 p.receiver.0 + 1) now
+  pairs_more from p was now next t line =
+      let h = taken_next g.rack (SoFar was) (row was) (skip was) from p next t in
+      taken_more g.rack (SoFar now) (row now) (skip now) p.sender.0 p.receiver.0 next.0 (printed was now p.sender.0 p.receiver.0 h (line.0, inl (next.0, line.1), line.2))
+
+  pub pairs_end : (from : ℕ) (now : List ℕ) → NextPair g.rack from None → PrintedFrom from now → Adds (AllPrinted g levels) initial now
+  pairs_end from now none t =
+      let h = taken_end g.rack (SoFar now) (row now) (skip now) from none t in
+      let same : now ≡ h.0 = h.2.2 ∙ ap (λ x. h.0 ++ x) h.2.1 ∙ append-nil h.0 in
+      subst (Adds (AllPrinted g levels) initial) (sym same) h.1

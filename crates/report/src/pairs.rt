@@ -1,17 +1,17 @@
 // The lines of the pairs of a plan whose pairs are all fine.
 ghost use Rattle.std.specs.Prelude.{◌≡◌, ◌≤◌, vec_capacity, string_bytes, MatchResult};
-ghost use Rattle.rack.specs.Racks.{node_count, channel_count};
+ghost use Rattle.rack.specs.Racks.{channel_count};
 ghost use Rattle.routing.specs.Paths.{PairOf};
 ghost use Rattle.checking.specs.Plans.{AllPairs};
 ghost use Rattle.routing.specs.Plans.{routing_of};
-ghost use Rattle.report.specs.Lines.{Adds, LineOf, ReceiversPrinted, AllPrinted};
+ghost use Rattle.report.specs.Lines.{Adds, LineOf, AllPrinted};
 
 use crate::lines::Line;
 use crate::refusal::Refusal;
 use checking::fault::CheckFault;
-use rack::numbers::Node;
 use routing::map::LaneMap;
 use routing::pair::Pair;
+use routing::pairs::Pairs;
 use routing::plan::{Plan, level_of};
 use routing::source::ForwardingSource;
 use routing::walk::{Step, walk};
@@ -50,28 +50,14 @@ impl<'a, 'b, S: ForwardingSource, M: LaneMap> Printer<'a, 'b, S, M> {
         Ok(())
     }
 
-    // Prints the lines of one sender's pairs, by ascending receiver.
-    fn print_sender(&mut self, sender: Node) -> Result<(), Refusal>
-        ensures plan { self.new.plan ≡ self.old.plan }
-        ensures lines { MatchResult result (λ _. Adds (ReceiversPrinted (routing_of S.route M.lanes self.old.plan.now) self.old.plan.now.levels.now sender.0 (node_count self.old.plan.now.rack.now)) (string_bytes self.old.out) (string_bytes self.new.out)) (λ f. f ≡ Refusal.Memory) }
-    {
-        for v in 0..self.plan.rack.node_count() as u16 {
-            let receiver = Node(v);
-            let pair = Pair { sender, receiver };
-            if pair.joins_hosts(self.plan.rack) {
-                self.print_pair(pair)?;
-            }
-        }
-        Ok(())
-    }
-
-    // Prints the lines of all pairs, by ascending sender.
+    // Prints the lines of all pairs, by ascending sender and then receiver.
     fn print_all(&mut self) -> Result<(), Refusal>
         ensures plan { self.new.plan ≡ self.old.plan }
         ensures lines { MatchResult result (λ _. Adds (AllPrinted (routing_of S.route M.lanes self.old.plan.now) self.old.plan.now.levels.now) (string_bytes self.old.out) (string_bytes self.new.out)) (λ f. f ≡ Refusal.Memory) }
     {
-        for u in 0..self.plan.rack.node_count() as u16 {
-            self.print_sender(Node(u))?;
+        let plan = self.plan;
+        for pair in Pairs::of(plan.rack) {
+            self.print_pair(pair)?;
         }
         Ok(())
     }

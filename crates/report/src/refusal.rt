@@ -13,6 +13,7 @@ use routing::fault::{DistanceFault, WalkFault};
 use routing::pair::Pair;
 use std::alloc::AllocError;
 
+// No `Display`, and none of the faults has one: what is printed of them is the line of what is told, and `Line` has that.
 #[derive(Clone, Copy, PartialEq, Eq, Debug)]
 pub enum Refusal {
     File(FileFault),
@@ -78,8 +79,7 @@ impl From<WalkFault> for Refusal {
 impl From<AllocError> for Refusal {
     ghost from_gives = { λ _ r. r ≡ Memory };
 
-    fn from(error: AllocError) -> Refusal {
-        let AllocError = error;
+    fn from(_: AllocError) -> Refusal {
         Refusal::Memory
     }
 }

@@ -6,14 +6,9 @@ ghost use Rattle.checking.specs.Starts.{Long};
 
 use rack::cable::Cable;
 use rack::rack::Rack;
+use reading::limits::{CABLES, FORWARDING, NODES};
 use routing::sizes::{dependency_words, lane_bytes, node_pairs, virtual_channels};
 use std::alloc::{AllocError, Global};
-
-// The most nodes that a file has.
-const NODES: usize = 128;
-
-// The most cables that it has.
-const CABLES: usize = 256;
 
 // What a file is read into. The tests of reading have tables of any length, with marks, in a struct of their own.
 #[derive(Drop)]
@@ -32,7 +27,7 @@ impl FileTables {
         Ok(FileTables {
             nodes: vec![in heap; 0u8; NODES]?,
             cables: vec![in heap; Cable::none(); CABLES]?,
-            forwarding: vec![in heap; 0u16; NODES * NODES]?,
+            forwarding: vec![in heap; 0u16; FORWARDING]?,
         })
     }
 }

@@ -1,4 +1,4 @@
--- How many numbers below n pass a test. Assumes nothing.
+-- How many numbers below n pass a test: as in `ranking`, since neither crate stands on the other. Assumes nothing.
 use Rattle.std.proofs.Common.{◌≡◌, ℕ, zero, suc, ◌+◌, ◌<◌, ◌≤◌, Bool, true, false, cond, refl, ⊎_elim, arith}
 use Rattle.std.proofs.lemmas.Bool.{cases_eq}
 

@@ -272,6 +272,16 @@ module _ (g : Routing) (lanes : ℕ) (p : Pair) (s : ℕ) where
   arrived_fault path f w (inl a) = absurd (a.1 w.pair)
   arrived_fault path f w (inr a) = a.4 ∙ same_fault a.0 (length path - 1) a.1 w.ends.0 a.2 arrived a.3 (last_arrived path w)
 
+-- where there is room for the path, what is wrong is not want of memory
+pub with_room : (g : Routing) (lanes : ℕ) (p : Pair) (s room : ℕ) (f : WalkFault) → channel_count g.rack ≤ room → WalkStops g lanes p s room f → WalkStops g lanes p s (channel_count g.rack) f
+with_room g lanes p s room (NoPair q) l h = h
+with_room g lanes p s room (Endless q k) l h = h
+with_room g lanes p s room (NoChannel q k) l h = h
+with_room g lanes p s room (Elsewhere q k) l h = h
+with_room g lanes p s room (Lane q k) l h = h
+with_room g lanes p s room (OtherHost q k) l h = h
+with_room g lanes p s room Memory l h = absurd (omega arith)
+
 memory_or_not : (f : WalkFault) → (f ≡ Memory) ⊎ (f ≡ Memory → ⊥)
 memory_or_not (NoPair q) = inr (λ e. let z : ◌≡◌ {A = ℕ} 0 1 = cc in omega arith)
 memory_or_not (Endless q k) = inr (λ e. let z : ◌≡◌ {A = ℕ} 0 1 = cc in omega arith)

@@ -6,6 +6,7 @@ pub mod Walking
 mod Counts
 mod Missing
 mod Columns
+pub mod PairOrder
 mod Reaching
 mod Nearness
 mod Filled

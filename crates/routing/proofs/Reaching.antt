@@ -9,7 +9,7 @@ use Rattle.rack.specs.Network.{head_end}
 use Rattle.rack.specs.Racks.{cables_of, node_count, channel_count, head, Leaving, back}
 use Rattle.rack.proofs.Facts.{tail_below, head_below, ways_back}
 use Rattle.routing.specs.Ways.{far, Grown, Leads, Reached, Passes, Spread}
-use Rattle.rack.proofs.Lists.{Lists}
+use Rattle.rack.specs.Index.{Lists}
 use Rattle.routing.proofs.Columns.{far_set_same, far_set_other, grown_none, grown_set, grown_weaken, grown_join}
 
 -- the place of the node that a channel enters, from its end

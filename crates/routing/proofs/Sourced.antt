@@ -6,7 +6,7 @@ use Rattle.rack.specs.declared.numbers.Channel.{Channel}
 use Rattle.rack.specs.declared.rack.Rack.{Rack}
 use Rattle.rack.specs.Racks.{channel_count, head, tail, Leaving}
 use Rattle.routing.specs.Sources.{numbers, told, one_nearer, least}
-use Rattle.rack.proofs.Lists.{Lists}
+use Rattle.rack.specs.Index.{Lists}
 
 -- the least that passes, told by what passes
 pub least_some : (p : ℕ → Bool) (k n j : ℕ) → k ≤ j → j < k + n → p j ≡ true → ((i : ℕ) → k ≤ i → i < j → p i ≡ false) → least p k n ≡ Some j

@@ -3,6 +3,7 @@ pub mod Turns
 pub mod Ways
 pub mod Paths
 pub mod Plans
+pub mod Pairs
 pub mod Walks
 pub mod Faults
 pub mod Laws

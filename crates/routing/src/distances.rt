@@ -9,7 +9,7 @@ use crate::sizes::node_pairs;
 use rack::numbers::Node;
 use rack::rack::Rack;
 
-// What the distance table, whose places are bytes, holds where there is no way.
+// What the distance table holds where there is no way: the table is lent, and the project lays its bytes down.
 pub const NO_WAY: u8 = 255;
 
 // The column of a node in the distance table: the places of the distances to it.
@@ -67,8 +67,7 @@ impl Column<'_> {
         ensures { Spread self.now.rack.now self.now.host.0 distance (node_count self.now.rack.now) distances.old distances.new result }
     {
         let mut found = false;
-        for w in 0..self.rack.node_count() as u16 {
-            let node = Node(w);
+        for node in (0..self.rack.node_count() as u16).map(Node) {
             if distances[self.place(node)] == distance && self.lets_through(node) {
                 found |= self.reach(distances, node, distance + 1);
             }
@@ -103,8 +102,7 @@ pub fn fill_distances(rack: &Rack, distances: &mut [u8]) -> Result<(), DistanceF
         return Err(DistanceFault::Tables);
     }
     distances[..places].fill(NO_WAY);
-    for v in 0..rack.node_count() as u16 {
-        let host = Node(v);
+    for host in (0..rack.node_count() as u16).map(Node) {
         if rack.is_host(host) {
             Column { rack, host }.fill(distances);
         }

@@ -86,6 +86,7 @@ impl<T: Drop> From<AllocFailed<T>> for WalkFault {
 }
 
 impl DistanceFault {
+    // The number of the refusal. Named, and no `From`: the faults of all layers are asked in the same words, and most of them answer an `Option`.
     pub fn number(self) -> u8
         ensures { (distance_refusal self).number ≡ Some result }
     {

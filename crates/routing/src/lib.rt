@@ -8,6 +8,7 @@ pub mod laws;
 pub mod map;
 pub mod one_lane;
 pub mod pair;
+pub mod pairs;
 pub mod plan;
 pub mod rows;
 pub mod sizes;

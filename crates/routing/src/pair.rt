@@ -1,9 +1,9 @@
 // A sender and a receiver, and their place in a table with a place for every pair of nodes.
-ghost use Rattle.std.specs.Prelude.{◌≡◌, ◌+◌, ◌*◌, Decides};
-ghost use Rattle.rack.specs.Racks.{node_count};
+ghost use Rattle.std.specs.Prelude.{◌≡◌, ◌+◌, ◌*◌, Decides, MatchOption};
+ghost use Rattle.rack.specs.Racks.{node_count, Leaving};
 ghost use Rattle.routing.specs.Paths.{PairOf};
 
-use rack::numbers::Node;
+use rack::numbers::{Channel, Node};
 use rack::rack::Rack;
 
 // A sender and a receiver.
@@ -36,5 +36,16 @@ impl Pair {
         ensures { Decides result (PairOf rack.now self.sender.0 self.receiver.0) }
     {
         self.sender != self.receiver && rack.is_host(self.sender) && rack.is_host(self.receiver)
+    }
+
+    // The channel on which the pair's packets begin; none if these are not two different hosts.
+    pub fn way_out(self, rack: &Rack) -> Option<Channel>
+        ensures { MatchOption result (PairOf rack.now self.sender.0 self.receiver.0 → ⊥) (λ c. PairOf rack.now self.sender.0 self.receiver.0 × Leaving rack.now self.sender.0 c.0) }
+    {
+        if self.joins_hosts(rack) {
+            rack.channel_out(self.sender)
+        } else {
+            None
+        }
     }
 }

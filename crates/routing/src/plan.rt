@@ -18,6 +18,7 @@ pub struct Plan<'a, S, M> {
 }
 
 // The level that a path table has for a pair, 0 beyond the table; none if its byte is above 15.
+// No method of `Plan`, which would ask for a source and a map too.
 pub fn level_of(rack: &Rack, levels: &[u8], pair: Pair) -> Option<Level>
     ensures { MatchOption result (15 < slice_index levels.now (node_count rack.now * pair.sender.0 + pair.receiver.0)) (λ s. s.number ≡ slice_index levels.now (node_count rack.now * pair.sender.0 + pair.receiver.0)) }
 {

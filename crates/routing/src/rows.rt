@@ -14,6 +14,7 @@ pub const PORTS: usize = 36;
 pub const LEVELS: usize = 16;
 
 // The number of the turn from a channel to a port, 1 to 36, of its head: what has one entry per turn has it there.
+// Channel and port side by side, here and below: of a turn each caller has the arriving channel at hand, and asks for the port alone (`turn_port`); a struct would carry the channel there and back.
 pub fn turn(channel: Channel, port: Port) -> usize
     ensures { result ≡ turn_place channel.0 port.0 }
 {
@@ -21,6 +22,7 @@ pub fn turn(channel: Channel, port: Port) -> usize
 }
 
 // The port by which the second channel leaves the switch that the first enters; none if it does not.
+// The two channels side by side, here and where they are handed on: a lane map is asked so, and not every two channels are a turn, which this function says.
 pub fn turn_port(rack: &Rack, arriving: Channel, leaving: Channel) -> Option<Port>
     ensures { MatchOption result (turns rack.now arriving.0 leaving.0 ≡ false) (λ p. (turns rack.now arriving.0 leaving.0 ≡ true) × (p.0 ≡ tail_port rack.now leaving.0) × (1 ≤ p.0) × (p.0 ≤ 36)) }
 {
@@ -37,6 +39,7 @@ pub fn row_place(channel: Channel, port: Port) -> usize
 }
 
 // The sixteen lanes of one turn, by level, as they stand in the table.
+// No `Model`: clauses name its one field.
 #[derive(Clone, Copy)]
 pub struct Row {
     lanes: [u8; LEVELS],

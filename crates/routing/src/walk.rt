@@ -21,6 +21,7 @@ pub struct Step {
 }
 
 // The step behind a channel that enters a switch: the source names the channel and the map its lane.
+// Plan and pair side by side, here and below: the fabric asks this of the pair of each packet that it forwards, and a struct would be made for that one call.
 pub fn advance<S: ForwardingSource, M: LaneMap>(
     plan: &Plan<'_, S, M>,
     pair: Pair,
@@ -48,13 +49,9 @@ pub fn advance<S: ForwardingSource, M: LaneMap>(
 fn depart<S, M>(plan: &Plan<'_, S, M>, pair: Pair) -> Result<Step, WalkFault>
     ensures { MatchResult result (λ h. PairOf plan.now.rack.now pair.sender.0 pair.receiver.0 × Leaving plan.now.rack.now pair.sender.0 h.channel.0 × (h.lane.number ≡ 0)) (λ f. (f ≡ WalkFault.NoPair pair) × (PairOf plan.now.rack.now pair.sender.0 pair.receiver.0 → ⊥)) }
 {
-    match plan.rack.channel_out(pair.sender) {
-        Some(channel) if pair.joins_hosts(plan.rack) => Ok(Step {
-            channel,
-            lane: Lane::zero(),
-        }),
-        _ => Err(WalkFault::NoPair { pair }),
-    }
+    let channel = pair.way_out(plan.rack).ok_or(WalkFault::NoPair { pair })?;
+    let lane = Lane::zero();
+    Ok(Step { channel, lane })
 }
 
 // The end of a pair's path, once a channel enters a host.

@@ -45,7 +45,7 @@ fn elsewhere(rt: HostRuntime) -> Result<(), Fail> {
     check_stops(&rt, heap, &plan, Pair::of(0, 2), 21, 2)
 }
 
-// The table has another entry at the place.
+// The table has another entry at the place. The tests of plans make such tables too: `example_racks` has a rack as it should be, and no slips of it.
 fn check_changed(
     rt: &(impl Abort + AllocGlobal),
     place: usize,
@@ -56,8 +56,8 @@ fn check_changed(
     let heap = rt.alloc();
     let rack = triangle(heap)?;
     let mut forwarding = CLOCKWISE;
-    if place < 36 {
-        forwarding[place] = entry;
+    if let Some(word) = forwarding.get_mut(place) {
+        *word = entry;
     }
     let source = Stored {
         rack: &rack,

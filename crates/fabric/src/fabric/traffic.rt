@@ -22,15 +22,12 @@ use routing::source::ForwardingSource;
 fn entrance<S, M>(plan: &Plan<'_, S, M>, pair: Pair) -> Result<(Channel, Level), FabricFault>
     ensures { MatchResult result (λ e. Entrance plan.now.rack.now plan.now.levels.now pair e.0.0 e.1.number) (NoEntrance plan.now.rack.now plan.now.levels.now pair) }
 {
-    let channel = match plan.rack.channel_out(pair.sender) {
-        Some(channel) if pair.joins_hosts(plan.rack) => channel,
-        _ => return Err(FabricFault::NoPair { pair }),
-    };
+    let channel = pair.way_out(plan.rack).ok_or(FabricFault::NoPair { pair })?;
     let level = level_of(plan.rack, plan.levels, pair).ok_or(FabricFault::Level { pair })?;
     Ok((channel, level))
 }
 
-// Whether a channel enters a node.
+// Whether a channel enters a node. One comparison, as in `arrive` of the walk, which turns it into a fault of its own.
 fn enters(rack: &Rack, channel: Channel, node: Node) -> bool
     requires { channel.0 < channel_count rack.now }
     ensures { Decides result (head rack.now channel.0 ≡ node.0) }

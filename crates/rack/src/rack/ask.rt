@@ -1,8 +1,7 @@
 // What a rack tells of its nodes and channels.
-ghost use Rattle.std.specs.Prelude.{◌≡◌, ℕ, ◌<◌, ◌≤◌, All, Contains, Decides, MatchOption};
-ghost use Rattle.std.specs.List.{AllPairs};
+ghost use Rattle.std.specs.Prelude.{◌≡◌, ℕ, ◌<◌, ◌≤◌, Decides, MatchOption};
+ghost use Rattle.rack.specs.Index.{Lists};
 ghost use Rattle.rack.specs.Network.{tail_end, head_end, Leaves};
-ghost use Rattle.rack.specs.declared.numbers.Channel.{Channel};
 ghost use Rattle.rack.specs.Racks.{node_count, channel_count, cables_of, Host, Switch, Leaving, Entering, EntersSwitch, back};
 
 use crate::cable::End;
@@ -65,9 +64,7 @@ impl Rack {
 
     // The channels that leave the node, in ascending order; none leaves what is no node.
     pub fn leaving(&self, node: Node) -> &[Channel]
-        ensures each { All (λ c. Leaving self.now node.0 c.0) result.now }
-        ensures every { (c : Channel) → Leaving self.now node.0 c.0 → Contains result.now c }
-        ensures ascending { AllPairs (λ b c. b.0 < c.0) result.now }
+        ensures { Lists (Leaving self.now node.0) result.now }
     {
         match self.leaving.get(usize::from(node.0)) {
             Some(channels) => channels,

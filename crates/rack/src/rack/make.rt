@@ -20,6 +20,7 @@ fn kinds_known(nodes: &[u8]) -> bool
 }
 
 // Whether each cable joins ports of two different nodes that are not both hosts.
+// Both tables side by side, here and in `ends`: the caller of `from_tables` lends them so, and definitions such as `KeepsRules` take the two; a struct would be taken apart in each clause.
 fn all_join(nodes: &[u8], cables: &[Cable]) -> bool
     ensures { Decides result (AllJoin nodes.now cables.now) }
 {
@@ -31,12 +32,10 @@ fn all_apart(cables: &[Cable]) -> bool
     requires { (k : ℕ) → k < length cables.now → (slice_index_or cables.now k none).first.node.0 ≢ (slice_index_or cables.now k none).second.node.0 }
     ensures { Decides result (Apart cables.now) }
 {
-    for (k, cable) in cables.iter().enumerate() {
-        if !is_free(&cables[..k], *cable) {
-            return false;
-        }
-    }
-    true
+    cables
+        .iter()
+        .enumerate()
+        .all(|(k, cable)| is_free(&cables[..k], *cable))
 }
 
 // Whether the tables keep the rules of a rack.

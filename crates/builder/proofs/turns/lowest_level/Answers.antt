@@ -1,17 +1,13 @@
-use Rattle.std.proofs.Common.{rules, tests, ◌≡◌, ℕ, ◌<◌, ◌≤◌, min, ltb, cond, List, length, map, get_or, Some, None, Option, MatchOption, refl, sym, ap, ◌∙◌, subst, arith, le-ltb, lt-ltb}
-use mathlib.Core.HLevel.{is_prop→PathP}
-use native.Mathlib.Bridge.{le_prop}
+use Rattle.std.proofs.Common.{rules, tests, ◌≡◌, ℕ, ◌<◌, min, ltb, cond, List, length, map, get_or, Some, None, Option, MatchOption, refl, sym, ap, ◌∙◌, subst, arith, le-ltb, lt-ltb}
 use Rattle.std.specs.List.{range_with_len, AllWithin, HoldsAt}
 use Rattle.std.proofs.lemmas.Iterator.{first_from_find, YieldsList-from_range}
 use Rattle.std.proofs.lemmas.Iterator.Consumers.{YieldsList-from_filter_map}
 use Rattle.std.proofs.lemmas.List.FromFn.{get_or-map-range_with_len}
 use Rattle.rack.specs.declared.rack.Rack.{Rack}
 use Rattle.rack.specs.declared.numbers.UpTo.{UpTo}
+use Rattle.rack.proofs.Same.{same_number}
 use Rattle.builder.specs.Method.{channels_of, Fits, Lowest, NoLevel}
 use Rattle.builder.proofs.turns.lowest_level.Goals as goal
-
-same_level : (a b : UpTo 15) → a.number ≡ b.number → a ≡ b
-same_level a b e = λ i. record { number = e i; within = is_prop→PathP (λ j. e j ≤ 15) (λ j. le_prop) a.within b.within i }
 
 -- the level of a number, and of no number above 15
 abbrev level : ℕ → UpTo 15
@@ -24,7 +20,7 @@ is_made : (n : ℕ) (r : Option (UpTo 15)) → MatchOption r (15 < n) (λ l. l.n
 is_made n None h = sym (ap (λ b. cond b (Some (level n)) None) (le-ltb n 16 (omega (arith, h))))
 is_made n (Some l) h =
     let low = l.within in
-    ap Some (same_level l (level n) (omega (arith, h))) ∙ sym (ap (λ b. cond b (Some (level n)) None) (lt-ltb n 16 (omega (arith, h))))
+    ap Some (same_number 15 l (level n) (omega (arith, h))) ∙ sym (ap (λ b. cond b (Some (level n)) None) (lt-ltb n 16 (omega (arith, h))))
 
 -- all of them, in their order
 abbrev levels : List (UpTo 15)

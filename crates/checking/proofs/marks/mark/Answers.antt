@@ -11,15 +11,12 @@ pub bounds-marks-place : goal.bounds-marks-place
 bounds-marks-place c =
     let r = c.args.rack.now in
     let below = (entered r c.args.one.channel.0 (turns_enters r c.args.one.channel.0 c.args.other.channel.0 c.requires.turn)).0 in
-    let t = c.in-Some.ensures in
+    let t = rw c.unwrap-port.ensures at c.turn_port.ensures in
     omega arith
-
-pub returns-in_default : goal.returns-in_default
-returns-in_default c = absurd (both_ways (turns c.args.rack.now c.args.one.channel.0 c.args.other.channel.0) c.in_default.ensures c.requires.turn)
 
 pub returns : goal.returns
 returns c =
-    let t = c.in-Some.ensures in
+    let t = rw c.unwrap-port.ensures at c.turn_port.ensures in
     let b = 8 * c.args.one.lane.number + c.args.other.lane.number in
     let n : 8 * c.number.result + c.number-2.result ≡ b = omega (arith, c.number.ensures, c.number-2.ensures) in
     let shift : 1 * 2 ^ (8 * c.number.result + c.number-2.result) % 2 ^ 64 ≡ 2 ^ b = one_shl (8 * c.number.result + c.number-2.result) 64 (omega (arith, c.number.ensures, c.number-2.ensures)) ∙ ap (λ k. 2 ^ k) n in

@@ -1,10 +1,10 @@
 use Rattle.std.proofs.Common.{◌≡◌, ℕ, ◌+◌, ◌*◌, ◌<◌, length, get_or, sym, refl, ap, ◌∙◌, subst, inl, ⊎_elim, arith}
 use Rattle.std.proofs.lemmas.List.{length_push}
 use Rattle.std.proofs.lemmas.Result.{IfErr-at_err, err_from_is_err_and}
-use Rattle.rack.specs.Network.{none, port_of, Leaves}
+use Rattle.rack.specs.Network.{port_of, Leaves}
 use Rattle.reading.specs.declared.fault.Rule.TheVariants.{Forwarding}
 use Rattle.reading.specs.Rules.{Names, nothing}
-use Rattle.rack.proofs.ShownTables.{shows_front}
+use Rattle.reading.proofs.OneMore.{front}
 use Rattle.reading.proofs.ForwardingPlaces.{below_count, place_within, forwarded_push}
 use Rattle.reading.proofs.add.add_entry.Goals as goal
 use Rattle.reading.proofs.add.add_entry.Goals.{In_ok-leaving}
@@ -13,9 +13,9 @@ pub returns-in_err-leaving : goal.returns-in_err-leaving
 returns-in_err-leaving c = λ limits net s.
     let no_channel = rw c.in_err-leaving.ensures.ok_part at c.channel.ensures in
     let why : c.in_err-leaving.field-0.0 ≡ Forwarding = IfErr-at_err (λ e. e ≡ Forwarding) (sym (rw c.in_err-leaving.ensures.ok_part at c.in_err-leaving.ensures.value)) refl in
-    let front = shows_front net.cables c.args.cables.now none c.args.counts.cables (omega arith) (omega arith) s.cable in
+    let first = front s (omega arith) in
     let q = err_from_is_err_and c.from_residual.result c.from_residual.ensures.1 in
-    rw (q.1, q.2, why) (inl (refl, λ all. no_channel all.2.0 (subst (λ l. Leaves l (port_of c.args.entry.switch.0 c.args.entry.port.0) all.2.0) (sym front) all.2.1)))
+    rw (q.1, q.2, why) (inl (refl, λ all. no_channel all.2.0 (subst (λ l. Leaves l (port_of c.args.entry.switch.0 c.args.entry.port.0) all.2.0) (sym first) all.2.1)))
 
 -- the switch and the host are nodes of the file
 switch_below : (c : In_ok-leaving) → c.args.entry.switch.0 < c.args.counts.nodes
@@ -38,8 +38,8 @@ returns c = λ limits net s.
     let some = (goal.at.returns c).In_ok-leaving in
     let w = c.args.entry.switch.0 in
     let v = c.args.entry.host.0 in
-    let front = shows_front net.cables c.args.cables.now none c.args.counts.cables (omega arith) (omega arith) s.cable in
-    let leaves : Leaves net.cables (port_of w c.args.entry.port.0) c.in_ok-leaving.leaving.0 = subst (λ l. Leaves l (port_of w c.args.entry.port.0) c.in_ok-leaving.leaving.0) front (rw c.in_ok-leaving.ensures.ok_part at c.channel.ensures) in
+    let first = front s (omega arith) in
+    let leaves : Leaves net.cables (port_of w c.args.entry.port.0) c.in_ok-leaving.leaving.0 = subst (λ l. Leaves l (port_of w c.args.entry.port.0) c.in_ok-leaving.leaving.0) first (rw c.in_ok-leaving.ensures.ok_part at c.channel.ensures) in
     let at : c.place-at.result ≡ length net.nodes * w + v = c.place-at.ensures ∙ ap (λ n. n * w + v) s.node_count in
     let blank : get_or c.args.forwarding.now c.place-at.result 0 ≡ 0 = omega arith in
     let zero : get_or c.args.forwarding.now (length net.nodes * w + v) 0 ≡ 0 = ap (λ i. get_or c.args.forwarding.now i 0) (sym at) ∙ blank in

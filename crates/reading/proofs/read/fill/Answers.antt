@@ -1,10 +1,12 @@
-use Rattle.std.proofs.Common.{◌≡◌, ◌+◌, ◌-◌, ◌*◌, ◌/◌, length, drop, Err, sym, ◌∙◌, ap, subst, arith, rules, below_more}
+use Rattle.std.proofs.Common.{◌≡◌, ◌+◌, ◌*◌, ◌/◌, length, drop, Err, sym, ◌∙◌, ap, subst, arith, rules, below_more}
+use Rattle.std.proofs.lemmas.List.{length-take}
 use Rattle.reading.specs.declared.fault.FileFault.TheVariants.{Record as Broken}
 use Rattle.reading.specs.Format.{said, decoded}
 use Rattle.reading.specs.Rules.{Described, Shown, Kept, Fine, Breaks, asked, grown, described, Answers}
 use Rattle.reading.proofs.OneMore.{described_more, Bounds, bounds_more, lonely_alike}
 use Rattle.reading.proofs.Records.{record_here, records_end}
 use Rattle.reading.proofs.read.fill.Goals as goal
+use Rattle.reading.proofs.read.fill.Goals.{In-None}
 
 pub loop-record-preserved : goal.loop-record-preserved
 loop-record-preserved c =
@@ -44,21 +46,26 @@ returns-in-Err c =
     subst (λ k. Answers c.args.limits f (Err (Broken k c.in-Err.rule)) c.step.new.nodes c.step.new.cables c.step.new.forwarding) (omega (arith, taken.1))
     (c.if-file-ne0.false, omega (arith, here.2), c.loop-record.invariant.6, broken)
 
+-- at the end every record is read
+ended : (c : In-None) → c.loop-record.record-iterator.count ≡ length c.args.file.now / 8
+ended c = records_end c.args.file.now _ _ c.loop-record.invariant.3 (omega (arith, c.in-None.ensures.steps.0.1.0, c.loop-record.invariant.2)) c.loop-record.invariant.4
+
+-- and the tables show what the file describes
+all_shown : (c : In-None) → Shown (described c.args.file.now (length c.args.file.now / 8)) c.loop-record.counts c.loop-record.nodes c.loop-record.cables c.loop-record.forwarding
+all_shown c = rw (ended c) at c.loop-record.invariant.5
+
+all_fine : (c : In-None) → Fine c.args.limits c.args.file.now (length c.args.file.now / 8)
+all_fine c = rw (ended c) at c.loop-record.invariant.6
+
 pub returns-in-Some-lonely_host : goal.returns-in-Some-lonely_host
 returns-in-Some-lonely_host c =
-    let f = c.args.file.now in
-    let m = length f / 8 in
-    let end : c.loop-record.record-iterator.count ≡ m = records_end f _ _ c.loop-record.invariant.3 (omega (arith, c.in-None.ensures.steps.0.1.0, c.loop-record.invariant.2)) c.loop-record.invariant.4 in
-    let s : Shown (described f m) c.loop-record.counts c.loop-record.nodes c.loop-record.cables c.loop-record.forwarding = rw end at c.loop-record.invariant.5 in
-    let alike = lonely_alike _ _ _ _ _ (c.loop-record.counts.cables - 0) s (omega arith) (omega arith) in
+    let end = (goal.at.returns-in-Some-lonely_host c).In-None in
+    let alike = lonely_alike (all_shown end) (omega (arith, length-take c.loop-record.counts.cables c.loop-record.cables)) in
     let told = c.in-Some-lonely_host.ensures in
-    (c.if-file-ne0.false, rw end at c.loop-record.invariant.6, (alike c.in-Some-lonely_host.host).0 told.0, λ u low alone. told.1 u low ((alike u).1 alone))
+    (c.if-file-ne0.false, all_fine end, (alike c.in-Some-lonely_host.host).0 told.0, λ u low alone. told.1 u low ((alike u).1 alone))
 
 pub returns-in-None-lonely_host : goal.returns-in-None-lonely_host
 returns-in-None-lonely_host c =
-    let f = c.args.file.now in
-    let m = length f / 8 in
-    let end : c.loop-record.record-iterator.count ≡ m = records_end f _ _ c.loop-record.invariant.3 (omega (arith, c.in-None.ensures.steps.0.1.0, c.loop-record.invariant.2)) c.loop-record.invariant.4 in
-    let s : Shown (described f m) c.loop-record.counts c.loop-record.nodes c.loop-record.cables c.loop-record.forwarding = rw end at c.loop-record.invariant.5 in
-    let alike = lonely_alike _ _ _ _ _ (c.loop-record.counts.cables - 0) s (omega arith) (omega arith) in
-    (c.if-file-ne0.false, rw end at c.loop-record.invariant.6, λ u alone. c.in-None-lonely_host.ensures u ((alike u).1 alone), s)
+    let end = (goal.at.returns-in-None-lonely_host c).In-None in
+    let alike = lonely_alike (all_shown end) (omega (arith, length-take c.loop-record.counts.cables c.loop-record.cables)) in
+    (c.if-file-ne0.false, all_fine end, λ u alone. c.in-None-lonely_host.ensures u ((alike u).1 alone), all_shown end)

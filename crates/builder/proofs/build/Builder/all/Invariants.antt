@@ -1,9 +1,13 @@
 use Rattle.std.proofs.Common.{◌≡◌}
-use Rattle.builder.specs.Method.{tables, blank, Senders}
+use Rattle.builder.specs.Method.{tables}
+use Rattle.builder.proofs.Taking.{TakenFrom}
 use Rattle.builder.proofs.build.Builder.all.Given as goal
 
-abbrev pub invariant-loop-u : goal.invariant-loop-u
-invariant-loop-u g l =
+abbrev pub invariant-loop-pair : goal.invariant-loop-pair
+invariant-loop-pair g l =
     let given = l.fn.self.given.now in
-    (l.self.given ≡ l.fn.self.given)
-    × Senders given.rack.now (g.S.ForwardingSource.route given.source.now) given.lane_count l.u (blank given.rack.now) (tables l.lanes l.levels)
+    (goal.iterator-loop-pair g).can_next l.pair-iterator
+    × (goal.iterator-loop-pair g).is_finite l.pair-iterator
+    × (l.pair-iterator.rack.now ≡ given.rack.now)
+    × (l.self.given ≡ l.fn.self.given)
+    × TakenFrom given.rack.now (g.S.ForwardingSource.route given.source.now) given.lane_count l.pair-iterator.from (tables l.lanes l.levels)

@@ -2,7 +2,8 @@ use Rattle.std.proofs.Common.{vec_items, vec_capacity, subst}
 use Rattle.std.proofs.lemmas.Result.{err_from_is_err_and}
 use Rattle.routing.specs.Walks.{Walked, WalkStops}
 use Rattle.builder.specs.Method.{alone}
-use Rattle.builder.proofs.Pathed.{with_room, path_of}
+use Rattle.routing.proofs.Determined.{with_room}
+use Rattle.builder.proofs.Pathed.{path_of}
 use Rattle.builder.proofs.build.Builder.walk.Goals as goal
 
 pub returns-in_err-walk-clause-answer : goal.returns-in_err-walk-clause-answer

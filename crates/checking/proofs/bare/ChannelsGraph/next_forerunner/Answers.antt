@@ -14,8 +14,7 @@ returns c =
     let w = c.in_ok-ends.ends.tail.node.0 in
     let at : w ≡ tail r y = ap (λ e. e.node.0) c.in_ok-ends.ensures.1 in
     let list = c.leaving.result.now in
-    let told = c.leaving.ensures in
     let backs = map way_back list in
-    let all = entering r w list (record { each = told.each; every = told.every; ascending = told.ascending }) in
+    let all = entering r w list c.leaving.ensures in
     next_same _ _ (channel_back_to r table backs y w c.requires at all) (channel_back_from r table backs y w at all) c.args.from c.first_marked.result
     (c.first_marked.ensures backs (λ d. word_there r table d y) ((YieldsList-from_map _ way_back (YieldsList-from_slice list cc) c.map-channels.ensures.closure (λ x q k m. search rules)).runs, all.ascending) (λ d b k. same_from_decides b (word_there r table d.0 y) (search rules) (there r table d.0 y)))

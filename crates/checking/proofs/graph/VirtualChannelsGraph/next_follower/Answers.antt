@@ -1,8 +1,6 @@
 use Rattle.std.proofs.Common.{◌/◌, rules}
 use Rattle.std.proofs.lemmas.Iterator.{YieldsList-from_slice}
 use Rattle.std.proofs.lemmas.Iterator.Consumers.{YieldsList-from_copied}
-use Rattle.rack.proofs.Lists.{Lists}
-use Rattle.rack.specs.Racks.{Leaving}
 use Rattle.checking.specs.Words.{word_of}
 use Rattle.checking.proofs.Scans.{next_same, follower_to, follower_from}
 use Rattle.checking.proofs.graph.VirtualChannelsGraph.next_follower.Goals as goal
@@ -14,7 +12,6 @@ returns c =
     let x = c.args.x in
     let w = c.in_ok-switch.switch.0 in
     let list = c.leaving.result.now in
-    let told = c.leaving.ensures in
-    let all : Lists (Leaving r w) list = record { each = told.each; every = told.every; ascending = told.ascending } in
+    let all = c.leaving.ensures in
     next_same _ _ (follower_to r table list x w c.requires all) (follower_from r table list x w c.in_ok-switch.ensures all) c.args.from c.first_set.result
     (c.first_set.ensures list (word_of r table (x / 8)) ((YieldsList-from_copied (YieldsList-from_slice list cc)).runs, all.ascending) (λ d n k. search rules))

@@ -14,8 +14,7 @@ returns c =
     let w = c.in_ok-ends.ends.tail.node.0 in
     let at : w ≡ tail r (y / 8) = ap (λ e. e.node.0) c.in_ok-ends.ensures.1 in
     let list = c.leaving.result.now in
-    let told = c.leaving.ensures in
     let backs = map way_back list in
-    let all = entering r w list (record { each = told.each; every = told.every; ascending = told.ascending }) in
+    let all = entering r w list c.leaving.ensures in
     next_same _ _ (forerunner_to r table backs y w c.requires all) (forerunner_from r table backs y w at all) c.args.from c.first_set.result
     (c.first_set.ensures backs (λ c. word_of r table c (y / 8)) ((YieldsList-from_map _ way_back (YieldsList-from_slice list cc) c.map-channels.ensures.closure (λ x q k m. search rules)).runs, all.ascending) (λ d n k. search rules))

@@ -1,41 +1,36 @@
-use Rattle.std.proofs.Common.{◌≡◌, ◌∙◌, subst, arith}
-use Rattle.std.proofs.lemmas.Bool.{both_ways}
+use Rattle.std.proofs.Common.{◌≡◌, ◌+◌, ◌∙◌, subst}
 use Rattle.std.proofs.lemmas.Result.{err_from_is_err_and}
-use Rattle.rack.specs.Racks.{node_count}
 use Rattle.routing.specs.Plans.{routing_of}
-use Rattle.checking.specs.Marks.{Adds, SenderSays}
-use Rattle.checking.proofs.Pairing.{all_skip, all_more, first_fault}
+use Rattle.routing.specs.Pairs.{pair_place}
+use Rattle.checking.specs.Marks.{Adds, PairSays}
+use Rattle.checking.proofs.Pairing.{pairs_more, pairs_end, first_fault}
 use Rattle.checking.proofs.marks.Marker.mark_all.Goals as goal
-use Rattle.checking.proofs.marks.Marker.mark_all.Goals.{then-is_host+in_ok-mark_sender, else-is_host}
 
-pub returns-in_err-mark_sender-clause-fault : goal.returns-in_err-mark_sender-clause-fault
-returns-in_err-mark_sender-clause-fault g c =
+pub returns-in_err-mark_pair-clause-fault : goal.returns-in_err-mark_pair-clause-fault
+returns-in_err-mark_pair-clause-fault g c =
     let q = err_from_is_err_and c.from_residual.result c.from_residual.ensures.1 in
-    rw (q.1, q.2) (first_fault _ _ _ (record { 0 = c.loop-u.u }) _ c.loop-u.invariant.1 (rw c.loop-u.invariant.0 at c.in_err-mark_sender.ensures.fault))
+    let so_far = c.loop-pair.invariant in
+    rw (q.1, q.2) (first_fault _ _ _ c.loop-pair.pair-iterator.from c.in-Some.pair (rw so_far.2 at c.in-Some.ensures.steps.1) _ so_far.4 (rw so_far.3 at c.in_err-mark_pair.ensures.fault))
 
-pub loop-u-preserved : goal.loop-u-preserved
-loop-u-preserved g c =
-    let u = c.loop-u.u in
-    let s = c.args.self.now.marks.items in
-    let t = c.loop-u.self.marks.items in
-    elim c.if-is_host.branch [
-      | then-is_host+in_ok-mark_sender w ↦
-          let told = w.in_ok-mark_sender.ensures in
-          let fine = rw c.loop-u.invariant.0 at told.fine in
-          let marks = subst (λ q. Adds (SenderSays (routing_of g.S.ForwardingSource.route g.M.LaneMap.lanes q.now) q.now.levels.now u (node_count q.now.rack.now)) t w.mark_sender.new.self.marks.items) c.loop-u.invariant.0 told.marks in
-          let more = all_more _ _ _ u s t w.mark_sender.new.self.marks.items fine c.loop-u.invariant.1 c.loop-u.invariant.2 marks in
-          (rw w.self-is (told.plan ∙ c.loop-u.invariant.0), more.0, rw w.self-is more.1)
-      | else-is_host w ↦
-          let more = all_skip _ _ _ u s t (λ h. both_ways c.is_host.result w.if-is_host.false (c.is_host.ensures.1 h)) c.loop-u.invariant.1 c.loop-u.invariant.2 in
-          (rw w.self-is c.loop-u.invariant.0, more.0, rw w.self-is more.1)
-    ]
+pub loop-pair-preserved : goal.loop-pair-preserved
+loop-pair-preserved g c =
+    let so_far = c.loop-pair.invariant in
+    let p = c.in-Some.pair in
+    let steps = c.in-Some.ensures.steps in
+    let told = c.in_ok-mark_pair.ensures in
+    let plan = c.args.self.now.plan.now in
+    let R = routing_of g.S.ForwardingSource.route g.M.LaneMap.lanes plan in
+    let marks = subst (λ q. Adds (PairSays (routing_of g.S.ForwardingSource.route g.M.LaneMap.lanes q.now) q.now.levels.now p.sender.0 p.receiver.0) c.loop-pair.self.marks.items c.mark_pair.new.self.marks.items) so_far.3 told.marks in
+    let more = pairs_more R plan.levels.now plan.lanes c.loop-pair.pair-iterator.from p (rw so_far.2 at steps.1) c.args.self.now.marks.items c.loop-pair.self.marks.items c.mark_pair.new.self.marks.items (rw so_far.3 at told.fine) so_far.4 so_far.5 marks in
+    let at : c.next.new.self.from ≡ pair_place plan.rack.now p.sender.0 p.receiver.0 + 1 = rw so_far.2 at steps.2 in
+    (tt, tt, steps.0 ∙ so_far.2, told.plan ∙ so_far.3, rw at more.0, rw at more.1)
 
 pub returns-clause-fine : goal.returns-clause-fine
 returns-clause-fine g c =
-    let e : c.loop-u.u ≡ node_count c.args.self.now.plan.now.rack.now = omega (arith, c.node_count-u-end.ensures.0) in
-    rw e at c.loop-u.invariant.1
+    let so_far = c.loop-pair.invariant in
+    (pairs_end _ _ _ c.loop-pair.pair-iterator.from c.args.self.now.marks.items c.loop-pair.self.marks.items (rw so_far.2 at c.in-None.ensures.steps.1) so_far.4 so_far.5).0
 
 pub returns-clause-marks : goal.returns-clause-marks
 returns-clause-marks g c =
-    let e : c.loop-u.u ≡ node_count c.args.self.now.plan.now.rack.now = omega (arith, c.node_count-u-end.ensures.0) in
-    rw e at c.loop-u.invariant.2
+    let so_far = c.loop-pair.invariant in
+    (pairs_end _ _ _ c.loop-pair.pair-iterator.from c.args.self.now.marks.items c.loop-pair.self.marks.items (rw so_far.2 at c.in-None.ensures.steps.1) so_far.4 so_far.5).1

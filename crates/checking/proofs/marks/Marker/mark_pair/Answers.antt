@@ -6,7 +6,7 @@ use Rattle.checking.specs.Plans.{level_at}
 use Rattle.checking.specs.Marks.{Adds, ListSays}
 use Rattle.checking.proofs.Adding.{adds_whole}
 use Rattle.checking.proofs.Marking.{list_turns, pair_adds, pair_fine}
-use Rattle.checking.proofs.Pairing.{with_room}
+use Rattle.routing.proofs.Determined.{with_room}
 use Rattle.checking.proofs.marks.Marker.mark_pair.Goals as goal
 
 pub returns-in_err-walk-clause-fault : goal.returns-in_err-walk-clause-fault

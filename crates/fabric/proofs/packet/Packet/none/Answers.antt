@@ -1,7 +1,7 @@
 use Rattle.std.proofs.Common.{ap}
 use Rattle.rack.specs.declared.numbers.UpTo.{UpTo}
+use Rattle.rack.proofs.Same.{same_number}
 use Rattle.fabric.specs.Padded.{no_packet}
-use Rattle.fabric.proofs.Same.{same_number}
 use Rattle.fabric.proofs.packet.Packet.none.Goals as goal
 
 pub returns : goal.returns

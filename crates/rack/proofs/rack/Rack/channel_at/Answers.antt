@@ -9,8 +9,7 @@ use Rattle.rack.proofs.rack.Rack.channel_at.Goals as goal
 pub returns : goal.returns
 returns c =
     let list = c.leaving.result.now in
-    let all = c.leaving.ensures in
     let r = c.args.self.now in
     let e = c.args.end in
-    at_port r e list (record { each = all.each; every = all.every; ascending = all.ascending }) c.find.result
+    at_port r e list c.leaving.ensures c.find.result
     (first_from_find _ _ c.find.result (λ x. Leaves (cables_of r) e x.0) (λ x. Leaves (cables_of r) e x.0 → ⊥) c.find.ensures.ran (YieldsList-from_copied (YieldsList-from_slice list cc)) (λ x q k. search (rules, tests)) (λ x q k. search (rules, tests)))

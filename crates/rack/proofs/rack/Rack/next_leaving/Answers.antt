@@ -9,6 +9,5 @@ pub returns : goal.returns
 returns c =
     let list = c.leaving.result.now in
     let n = c.args.from.0 in
-    let all = c.leaving.ensures in
-    first_from (Leaving c.args.self.now c.args.node.0) list (record { each = all.each; every = all.every; ascending = all.ascending }) n c.find.result
+    first_from (Leaving c.args.self.now c.args.node.0) list c.leaving.ensures n c.find.result
     (first_from_find _ _ c.find.result (λ x. n ≤ x.0) (λ x. x.0 < n) c.find.ensures.ran (YieldsList-from_copied (YieldsList-from_slice list cc)) (λ x q k. search (rules, tests)) (λ x q k. search (rules, tests)))

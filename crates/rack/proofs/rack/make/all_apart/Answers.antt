@@ -1,20 +1,15 @@
-use Rattle.std.proofs.Common.{refl, inl, inr, arith}
-use Rattle.std.proofs.lemmas.Bool.{false≢true}
-use Rattle.std.proofs.lemmas.Bool.Decides.{not_from_Decides}
-use Rattle.rack.proofs.Channels.{free_front, apart_more, apart_free}
+use Rattle.std.proofs.Common.{take, rules, tests}
+use Rattle.std.proofs.lemmas.Bool.Decides.{Decides-like}
+use Rattle.std.proofs.lemmas.Iterator.{YieldsList-from_slice, cases_from_all}
+use Rattle.std.proofs.lemmas.Iterator.Consumers.{YieldsList-from_enumerate}
+use Rattle.rack.specs.Network.{none}
+use Rattle.rack.proofs.Chains.{all_numbered_decides}
+use Rattle.rack.proofs.Channels.{IsFree, apart_from_free, free_from_apart}
 use Rattle.rack.proofs.rack.make.all_apart.Goals as goal
 
-pub returns-then-not-is_free : goal.returns-then-not-is_free
-returns-then-not-is_free c =
+pub returns : goal.returns
+returns c =
     let cs = c.args.cables.now in
-    let k = c.loop-k.k in (
-      λ e. absurd (false≢true e),
-      λ apart. absurd (not_from_Decides _ c.is_free.ensures c.if-not-is_free.true (apart_free cs k k _ (omega arith) (omega arith) (inl refl) apart, apart_free cs k k _ (omega arith) (omega arith) (inr refl) apart)),
-    )
-
-pub loop-k-preserved : goal.loop-k-preserved
-loop-k-preserved c =
-    let cs = c.args.cables.now in
-    let k = c.loop-k.k in
-    let free = c.is_free.ensures.0 c.if-not-is_free.false in
-    apart_more cs k (c.requires k (omega arith)) (free_front cs k k _ (omega arith) (omega arith) free.0) (free_front cs k k _ (omega arith) (omega arith) free.1) c.loop-k.invariant
+    Decides-like c.all.result (apart_from_free cs c.requires) (free_from_apart cs)
+    (all_numbered_decides (λ k cable. IsFree (take k cs) cable) cs none c.all.result
+    (cases_from_all _ _ c.all.result (λ p. IsFree (take p.0 cs) p.1) (λ p. IsFree (take p.0 cs) p.1 → ⊥) c.all.ensures.ran (YieldsList-from_enumerate (YieldsList-from_slice cs cc) cc) (λ x q k. search (rules, tests)) (λ x q k. search (rules, tests))))

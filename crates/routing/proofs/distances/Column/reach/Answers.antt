@@ -1,7 +1,5 @@
 use Rattle.std.proofs.Common.{◌<◌, length, arith}
 use Rattle.rack.proofs.Facts.{head_below}
-use Rattle.rack.specs.Racks.{Leaving}
-use Rattle.rack.proofs.Lists.{Lists}
 use Rattle.routing.proofs.Columns.{pair_below}
 use Rattle.routing.proofs.Reaching.{head_place, reaching_none, reaching_skip, reaching_write, reaching_all}
 use Rattle.routing.proofs.distances.Column.reach.Goals as goal
@@ -16,17 +14,15 @@ bounds-distances-place c =
 
 pub loop-channel-init : goal.loop-channel-init
 loop-channel-init c =
-    let told = c.leaving-channel-items.ensures in
-    reaching_none _ _ _ _ _ (record { each = told.each; every = told.every; ascending = told.ascending }) _
+    reaching_none _ _ _ _ _ c.leaving-channel-items.ensures _
 
 pub loop-channel-preserved : goal.loop-channel-preserved
 loop-channel-preserved c =
     let column = c.args.self.now in
     let r = column.rack.now in
     let v = column.host.0 in
-    let told = c.leaving-channel-items.ensures in
     let list = c.leaving-channel-items.result.now in
-    let leavers : Lists (Leaving r c.args.node.0) list = record { each = told.each; every = told.every; ascending = told.ascending } in
+    let leavers = c.leaving-channel-items.ensures in
     let k = c.loop-channel.channel-index in
     let inside : k < length list = omega arith in
     elim c.match-ends.branch [
@@ -38,10 +34,9 @@ loop-channel-preserved c =
           let is = head_place r v _ _ _ w.place-place.ensures w.in-Some.ensures.2 in
           rw (w.distances-is, w.found-is)
           (reaching_skip r v c.args.node.0 c.args.distance list leavers k inside c.args.distances.now c.loop-channel.distances c.loop-channel.found w.place-place.result is w.if-distances-place.false c.loop-channel.invariant)
-      | in_default w ↦ absurd (omega (arith, w.in_default.ensures, (told.each k (record { 0 = 0 }) inside).0))
+      | in_default w ↦ absurd (omega (arith, w.in_default.ensures, (leavers.each k (record { 0 = 0 }) inside).0))
     ]
 
 pub returns : goal.returns
 returns c =
-    let told = c.leaving-channel-items.ensures in
-    reaching_all _ _ _ _ c.leaving-channel-items.result.now (record { each = told.each; every = told.every; ascending = told.ascending }) c.loop-channel.channel-index c.loop-channel-test.false _ _ _ c.loop-channel.invariant
+    reaching_all _ _ _ _ c.leaving-channel-items.result.now c.leaving-channel-items.ensures c.loop-channel.channel-index c.loop-channel-test.false _ _ _ c.loop-channel.invariant

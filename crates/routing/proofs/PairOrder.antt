@@ -1,0 +1,121 @@
+-- The pairs of different hosts in their order, one more at a time. Assumes nothing.
+use Rattle.std.proofs.Common.{◌≡◌, ℕ, zero, suc, ◌+◌, ◌-◌, ◌*◌, ◌<◌, ◌≤◌, ◌⊎◌, None, Some, refl, sym, ap, ◌∙◌, subst, ⊎_elim, mul_comm, arith}
+use Rattle.std.proofs.Math.Nat.{mul-suc}
+use Rattle.std.proofs.lemmas.Nat.{mul-add-lt}
+use Rattle.std.proofs.lemmas.Bool.{cases_lt}
+use Rattle.rack.specs.declared.rack.Rack.{Rack}
+use Rattle.rack.specs.Racks.{node_count}
+use Rattle.rack.proofs.Facts.{host_below}
+use Rattle.routing.specs.declared.pair.Pair.{Pair}
+use Rattle.routing.specs.Paths.{PairOf}
+use Rattle.routing.specs.Pairs.{pair_place, HasPair, NextPair}
+use Rattle.routing.proofs.Columns.{pair_below, same_pair}
+
+module _ (r : Rack) where
+  abbrev n : ℕ
+  n = node_count r
+
+  -- a pair's place lies in the table
+  pub place_below : (u v : ℕ) → PairOf r u v → pair_place r u v < n * n
+  place_below u v p = pair_below n u v (host_below r u p.0) (host_below r v p.1)
+
+  -- pairs with one place are one pair
+  pub place_same : (u v a b : ℕ) → PairOf r u v → PairOf r a b → pair_place r u v ≡ pair_place r a b → (u ≡ a) × (v ≡ b)
+  place_same u v a b p q e = same_pair n u v a b (host_below r v p.1) (host_below r b q.1) e
+
+  -- what lies before in the order has the lesser place
+  pub place_earlier : (a b u v : ℕ) → PairOf r a b → (a < u) ⊎ ((a ≡ u) × (b < v)) → pair_place r a b < pair_place r u v
+  place_earlier a b u v p h =
+      ⊎_elim
+      (λ (l : a < u). let m = mul-add-lt a n b u l (host_below r b p.1) in omega (arith, mul_comm a n, mul_comm u n))
+      (λ (e : (a ≡ u) × (b < v)). let same = ap (λ x. n * x) e.0 in omega (arith, e.1))
+      h
+
+  -- the pair at the place, and no other, is of different hosts
+  pub at_place : (k : ℕ) (p : Pair) → p.receiver.0 < n → pair_place r p.sender.0 p.receiver.0 ≡ k → HasPair r k → PairOf r p.sender.0 p.receiver.0
+  at_place k p low is h =
+      let same = same_pair n h.0 h.1 p.sender.0 p.receiver.0 (host_below r h.1 h.2.1) low (h.3 ∙ sym is) in
+      subst (λ x. PairOf r x p.receiver.0) same.0 (subst (PairOf r h.0) same.1 h.2)
+
+  pub within_table : (k : ℕ) → HasPair r k → k < n * n
+  within_table k h = omega (arith, place_below h.0 h.1 h.2, h.3)
+
+  -- of the places from k on the search found none of a pair, or the first
+  pub next_none : (k : ℕ) → ((x : ℕ) → k ≤ x → HasPair r x → ⊥) → NextPair r k None
+  next_none k none u v p =
+      ⊎_elim
+      (λ (l : pair_place r u v < k). l)
+      (λ (l : k ≤ pair_place r u v). absurd (none (pair_place r u v) l (u, v, p, refl)))
+      (cases_lt (pair_place r u v) k)
+
+  pub next_found : (k x : ℕ) (p : Pair) → k ≤ x → HasPair r x → ((y : ℕ) → k ≤ y → y < x → HasPair r y → ⊥) → p.receiver.0 < n → pair_place r p.sender.0 p.receiver.0 ≡ x → NextPair r k (Some p)
+  next_found k x p low has none at is = (
+    at_place x p at is has,
+    omega (arith, is),
+    λ u v q l.
+        ⊎_elim
+        (λ (less : pair_place r u v < x). absurd (none (pair_place r u v) l less (u, v, q, refl)))
+        (λ (more : x ≤ pair_place r u v). omega (arith, is))
+        (cases_lt (pair_place r u v) x),
+  )
+
+  -- what holds when the senders below u were taken, and of u the receivers below v: after a whole row begins the next, and what is no pair can be passed
+  module _ (P : ℕ → ℕ → Type 0) (row : (u : ℕ) → P u n → P (suc u) 0) (skip : (u v : ℕ) → (PairOf r u v → ⊥) → P u v → P u (suc v)) where
+    -- it holds at place k
+    abbrev pub Taken : ℕ → Type 0
+    Taken k = (u v : ℕ) × (u ≤ n) × (v ≤ n) × (k ≤ n * n) × (pair_place r u v ≡ k) × P u v
+
+    -- the same pair of numbers or the next row's beginning, with a receiver below the count
+    turned : (u v : ℕ) → 0 < n → v ≤ n → P u v → (a : ℕ) × (b : ℕ) × (b < n) × (pair_place r a b ≡ pair_place r u v) × P a b
+    turned u v some le p =
+        ⊎_elim
+        (λ (l : v < n). (u, v, l, refl, p))
+        (λ (g : n ≤ v).
+        let e : v ≡ n = omega arith in
+        (suc u, 0, some, omega (arith, mul-suc n u), row u (subst (P u) e p)))
+        (cases_lt v n)
+
+    -- from u, v on, d places farther, if no pair is passed
+    walk :
+        (a b : ℕ) → b < n → (d u v : ℕ) → v ≤ n → pair_place r u v + d ≡ pair_place r a b → ((x y : ℕ) → PairOf r x y → pair_place r u v ≤ pair_place r x y → pair_place r x y < pair_place r a b → ⊥) → P u v → P a b
+    walk a b low zero u v le e none p =
+        let t = turned u v (omega arith) le p in
+        let same = same_pair n t.0 t.1 a b t.2 low (t.3 ∙ omega arith) in
+        subst (λ x. P x b) same.0 (subst (P t.0) same.1 t.4)
+    walk a b low (suc d) u v le e none p =
+        let t = turned u v (omega arith) le p in
+        let here : pair_place r t.0 t.1 ≡ pair_place r u v = t.3 in
+        walk a b low d t.0 (suc t.1) (omega (arith, t.2)) (omega arith)
+        (λ x y q l h. none x y q (omega arith) h)
+        (skip t.0 t.1 (λ q. none t.0 t.1 q (omega arith) (omega arith)) t.4)
+
+    -- the search found a pair: it holds when all before were taken
+    pub taken_next : (k : ℕ) (p : Pair) → NextPair r k (Some p) → Taken k → P p.sender.0 p.receiver.0
+    taken_next k p found t =
+        let u = p.sender.0 in
+        let v = p.receiver.0 in
+        let at : pair_place r t.0 t.1 ≡ k = t.5 in
+        let d : (d : ℕ) × (pair_place r t.0 t.1 + d ≡ pair_place r u v) = (pair_place r u v - pair_place r t.0 t.1, omega (arith, found.1)) in
+        walk u v (host_below r v found.0.1) d.0 t.0 t.1 t.3 d.1
+        (λ x y q l h. let low = found.2 x y q (omega arith) in omega arith)
+        t.6
+
+    -- it holds at the place behind a pair that was taken
+    pub taken_more : (u v : ℕ) → PairOf r u v → P u (suc v) → Taken (pair_place r u v + 1)
+    taken_more u v p h = (u, suc v, omega (arith, host_below r u p.0), omega (arith, host_below r v p.1), omega (arith, place_below u v p), omega arith, h)
+
+    pub taken_start : P 0 0 → Taken 0
+    taken_start h = (0, 0, omega arith, omega arith, omega arith, omega arith, h)
+
+    -- there is no further pair: it holds when all are taken
+    pub taken_end : (k : ℕ) → NextPair r k None → Taken k → P n 0
+    taken_end k none t =
+        ⊎_elim
+        (λ (some : 0 < n).
+        let d : (d : ℕ) × (pair_place r t.0 t.1 + d ≡ pair_place r n 0) = (pair_place r n 0 - pair_place r t.0 t.1, omega (arith, t.4, t.5)) in
+        walk n 0 some d.0 t.0 t.1 t.3 d.1 (λ x y q l h. let low = none x y q in omega (arith, t.5)) t.6)
+        (λ (no : n ≤ 0).
+        let eu : t.0 ≡ n = omega (arith, t.2) in
+        let ev : t.1 ≡ 0 = omega (arith, t.3) in
+        subst (λ x. P x 0) eu (subst (P t.0) ev t.6))
+        (cases_lt 0 n)
