@@ -5,6 +5,6 @@ mod Roads
 mod Standing
 mod Steps
 mod Questions
-mod Determined
+pub mod Determined
 mod Lawful
 mod Courses

@@ -5,7 +5,7 @@ use report::report::report;
 use std::{fs, io};
 
 // The samples, in the order in which they are shown.
-const NAMES: [&str; 10] = [
+const NAMES: [&str; 12] = [
     "triangle",
     "clockwise",
     "line",
@@ -16,6 +16,8 @@ const NAMES: [&str; 10] = [
     "two-parts",
     "thirteen-nodes",
     "seventeen-cables",
+    "turned",
+    "back",
 ];
 
 // One sample: its name, and the answer.
