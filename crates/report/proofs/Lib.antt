@@ -1,6 +1,6 @@
 mod FinePairs
 mod Printing
-mod Outcomes
+pub mod Outcomes
 mod SameRacks
 mod SameRoutes
 mod OneText

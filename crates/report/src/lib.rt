@@ -6,4 +6,4 @@ pub mod lines;
 mod pairs;
 pub mod refusal;
 pub mod report;
-mod tables;
+pub mod tables;

@@ -1,0 +1,64 @@
+-- What is said of plans that are built. Assumes nothing.
+use Rattle.std.specs.Prelude.{◌≡◌, ℕ, ◌⊎◌, Bool, true, false, List, ◌++◌, Some, None, Ok, Err, Result, IsSomeAnd, slice_index, string_bytes}
+use Rattle.rack.specs.declared.rack.Rack.{Rack}
+use Rattle.builder.specs.declared.fault.BuildFault.{BuildFault}
+use Rattle.builder.specs.Method.{Tables}
+use Rattle.builder.specs.Outcomes.{Outcome}
+use Rattle.checking.specs.declared.acceptance.Acceptance.{Acceptance}
+use Rattle.checking.specs.declared.fault.CheckFault.{CheckFault}
+use Rattle.checking.specs.Answers.{TablesAt, Checked}
+use Rattle.report.specs.declared.refusal.Refusal.TheVariants.{Build}
+use Rattle.report.specs.declared.refusal.Told.{Told}
+use Rattle.report.specs.Refusals.{told}
+use Rattle.report.specs.Text.{accepted_line, refused_line}
+use Rattle.workbench.specs.declared.built.Built.{Built}
+use Rattle.workbench.specs.declared.rack_file.RackFile.{RackFile}
+use Rattle.workbench.specs.declared.summary.Summary.{Summary}
+use Rattle.workbench.specs.RackFiles.{file_route}
+use Rattle.workbench.specs.PlanFiles.{plan_bytes}
+use Rattle.workbench.specs.Summaries.{Sums, summary_text}
+use Rattle.workbench.specs.TwoHops.{HoldsTwoHop}
+use Rattle.workbench.specs.Answers.{file_plan, RefusedText}
+
+-- what becomes of the tables: they hold the two-hop map and level 0, or what the builder makes of them
+abbrev pub LaidOut : RackFile → ℕ → Bool → Tables → Tables → Result (Unit {0}) BuildFault → Type 0
+LaidOut f count true was now (Ok x) = HoldsTwoHop f.rack now.lanes × ((k : ℕ) → slice_index now.levels k ≡ 0)
+LaidOut f count true was now (Err b) = ⊥
+LaidOut f count false was now r = Outcome f.rack (file_route f) count was now r
+
+-- what is said of an accepted plan: its greatest rank and its summary; and its file holds its tables
+pub record AcceptedSays (r : Rack) (count : ℕ) (lanes levels : List ℕ) (greatest : ℕ) (b : Built) : Type 0 where
+  pub summary : Summary
+  pub sums : Sums r count greatest summary
+  pub text : string_bytes b.text ≡ accepted_line greatest ++ summary_text summary
+  pub file : IsSomeAnd b.file (λ v. v.items ≡ plan_bytes count lanes levels)
+
+-- what is said of what the check answers: of a refused plan there is no file
+abbrev pub CheckedSays : Rack → ℕ → Tables → List ℕ → Result Acceptance CheckFault → Built → Type 0
+CheckedSays r count now ring (Ok a) b = AcceptedSays r count now.lanes now.levels a.greatest b
+CheckedSays r count now ring (Err f) b = RefusedText r ring f (string_bytes b.text) × (b.file ≡ None)
+
+-- the tables were laid out and checked
+pub record CheckedBuild (f : RackFile) (count : ℕ) (two_hop : Bool) (b : Built) : Type 0 where
+  pub was : Tables
+  pub now : Tables
+  pub before : TablesAt
+  pub after : TablesAt
+  pub answer : Result Acceptance CheckFault
+  pub laid : LaidOut f count two_hop was now (Ok tt)
+  pub checked : Checked (file_plan f now.lanes) now.levels count before after answer
+  pub says : CheckedSays f.rack count now after.ring answer b
+
+-- the tables were not laid out: why, and there is no file
+pub record RefusedBuild (f : RackFile) (count : ℕ) (two_hop : Bool) (b : Built) : Type 0 where
+  pub was : Tables
+  pub now : Tables
+  pub fault : BuildFault
+  pub numbers : Told
+  pub laid : LaidOut f count two_hop was now (Err fault)
+  pub tells : told (Build fault) ≡ Some numbers
+  pub text : string_bytes b.text ≡ refused_line numbers
+  pub file : b.file ≡ None
+
+abbrev pub BuildSays : RackFile → ℕ → Bool → Built → Type 0
+BuildSays f count two_hop b = CheckedBuild f count two_hop b ⊎ RefusedBuild f count two_hop b

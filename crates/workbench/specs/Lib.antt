@@ -1,0 +1,15 @@
+pub mod PlanFiles
+pub mod Words
+pub mod Requests
+pub mod Replies
+pub mod Rings
+pub mod Ways
+pub mod RackFiles
+pub mod TwoHops
+pub mod Summaries
+pub mod Answers
+pub mod Courses
+pub mod Builds
+pub mod Starts
+pub mod Commands
+pub mod Laws

@@ -1,0 +1,88 @@
+// A dry fabric under the plan of a plan file: its start and its end.
+ghost use Rattle.std.specs.Prelude.{IfOk};
+ghost use Rattle.workbench.specs.Starts.{OpenSays, StartSays, CloseSays};
+
+use crate::checked::{check_plan, refusal_text};
+use crate::plan_file::PlanFile;
+use crate::rack_file::RackFile;
+use crate::reply::{Reply, told_of};
+use checking::acceptance::Acceptance;
+use fabric::fabric::Fabric;
+use fabric::fabric::open::open;
+use fabric::queue::Queue;
+use report::tables::PlanTables;
+use routing::plan::Plan;
+use std::alloc::{AllocError, Global};
+
+// An open fabric; or what is said where there is none.
+#[derive(Drop)]
+pub enum Start {
+    Open(Fabric),
+    Refused(String),
+}
+
+// Opens a fabric under a plan that was accepted.
+fn open_accepted(
+    heap: Global,
+    rack: &RackFile,
+    plan: PlanFile<'_>,
+    acceptance: Acceptance,
+    depth: u8,
+    queues: &mut [Queue],
+) -> Result<Start, AllocError>
+    ensures { IfOk result (OpenSays rack.now.rack plan.entry.levels.now plan.entry.lane_count depth queues.old queues.new) }
+{
+    // opening asks for no source and no map
+    let plan = Plan {
+        rack: &rack.rack,
+        source: &(),
+        map: &(),
+        levels: plan.levels,
+        lanes: plan.lane_count,
+    };
+    match open(acceptance, &plan, depth, queues) {
+        Ok(fabric) => Ok(Start::Open(fabric)),
+        Err(refused) => {
+            let told = told_of(refused.fault).ok_or(AllocError)?;
+            Ok(Start::Refused(Reply::Refused(told).to_string(heap)?))
+        }
+    }
+}
+
+// Checks the plan of a plan file, and opens a fabric under it whose queues hold so many packets each.
+pub fn open_dry(
+    heap: Global,
+    rack: &RackFile,
+    plan: PlanFile<'_>,
+    depth: u8,
+    queues: &mut [Queue],
+) -> Result<Start, AllocError>
+    ensures { IfOk result (StartSays rack.now plan.entry.lanes.now plan.entry.levels.now plan.entry.lane_count depth queues.old queues.new) }
+{
+    let mut tables = PlanTables::new(heap, &rack.rack)?;
+    let answer = check_plan(
+        heap,
+        rack,
+        plan,
+        &mut tables.dependencies,
+        &mut tables.ranks,
+        &mut tables.ring,
+    );
+    match answer {
+        Ok(acceptance) => open_accepted(heap, rack, plan, acceptance, depth, queues),
+        Err(fault) => {
+            let text = refusal_text(heap, &rack.rack, fault, &tables.ring)?;
+            Ok(Start::Refused(text))
+        }
+    }
+}
+
+// Closes the fabric: what is said then.
+pub fn close<S, M>(fabric: Fabric, plan: &Plan<'_, S, M>, queues: &[Queue]) -> Option<Reply>
+    ensures { CloseSays plan.now queues.now result }
+{
+    match fabric.close(plan, queues) {
+        Ok(waiting) => Some(Reply::Closed { waiting }),
+        Err(refused) => Some(Reply::Refused(told_of(refused.fault)?)),
+    }
+}

@@ -1,0 +1,18 @@
+// What the program for the bench decides: plan files, calls on a dry fabric, and the answers to them.
+#![tactic(auto)]
+
+pub mod answer;
+pub mod arguments;
+pub mod built;
+pub mod checked;
+pub mod dry;
+pub mod laws;
+pub mod plan_file;
+pub mod rack_file;
+pub mod reply;
+pub mod request;
+pub mod ring;
+pub mod summary;
+mod two_hop;
+pub mod way;
+mod words;
