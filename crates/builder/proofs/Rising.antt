@@ -9,8 +9,9 @@ use Rattle.rack.proofs.Facts.{host_below}
 use Rattle.routing.specs.Turns.{turns, row_start, lane_bytes}
 use Rattle.routing.specs.Paths.{PairOf}
 use Rattle.builder.specs.Method.{PathOf, Middle, Passes, entry_of, entry_place, Tables, blank, PairBuilt, Taken, Receivers, Senders}
-use Rattle.builder.specs.Outcomes.{InRange, LongEnough, needed}
-use Rattle.builder.specs.Laws.{Rises, LanesRise}
+use Rattle.routing.specs.Plans.{OneToEight}
+use Rattle.builder.specs.Outcomes.{LongEnough, needed}
+use Rattle.builder.specs.Laws.{TurnsNumbered, LanesRise}
 use Rattle.builder.proofs.Rows.{row_inside}
 use Rattle.builder.proofs.Pathed.{passes, same_path}
 use Rattle.builder.proofs.Taking.{blank_long, pair_on_way}
@@ -75,7 +76,7 @@ module _ (r : Rack) (route : ℕ → ℕ → Option ℕ) (count : ℕ) where
   long_senders zero was now long t = subst (LongEnough r) (sym t) long
   long_senders (suc n) was now long t = long_receivers n (node_count r) t.0 now (long_senders n was t.0 long t.1) t.2
 
-module _ (r : Rack) (route : ℕ → ℕ → Option ℕ) (count : ℕ) (range : InRange count) where
+module _ (r : Rack) (route : ℕ → ℕ → Option ℕ) (count : ℕ) (range : OneToEight count) where
   -- the level of the pair u, v is at its place, and its middle turns have their lanes there
   pub record Given (u v : ℕ) (path : List ℕ) (t : Tables) : Type 0 where
     pub short : length path ≤ 10
@@ -176,7 +177,7 @@ lanes_rise r route count now range built =
     }
 
 -- further places do not matter
-pub rises_beyond : (r : Rack) (route : ℕ → ℕ → Option ℕ) (count : ℕ) (now : Tables) → LongEnough r now → Rises r route count (needed r now) → Rises r route count now
+pub rises_beyond : (r : Rack) (route : ℕ → ℕ → Option ℕ) (count : ℕ) (now : Tables) → LongEnough r now → TurnsNumbered r route count (needed r now) → TurnsNumbered r route count now
 rises_beyond r route count now long h =
     let L = lane_bytes (channel_count r) in
     let full : length (take L now.lanes) ≡ L = length-take-le L now.lanes long.0 in

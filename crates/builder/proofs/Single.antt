@@ -11,7 +11,8 @@ use Rattle.routing.proofs.Determined.{same_nodes}
 use Rattle.builder.specs.declared.fault.BuildFault.{BuildFault}
 use Rattle.builder.specs.declared.fault.BuildFault.TheVariants.{Lanes, Tables as Short, Walk, Lane, Level, Memory}
 use Rattle.builder.specs.Method.{PathOf, Middle, entry_place, Lowest, Claimed, Tables, tables, blank, Placed, PairBuilt, Taken, Receivers, Senders, Built}
-use Rattle.builder.specs.Outcomes.{InRange, LongEnough, needed, Lacks, ReceiverLacks, FirstLacks, Outcome}
+use Rattle.routing.specs.Plans.{OneToEight}
+use Rattle.builder.specs.Outcomes.{LongEnough, needed, Lacks, ReceiverLacks, FirstLacks, Outcome}
 use Rattle.builder.specs.Laws.{OneOutcome}
 use Rattle.builder.proofs.Pathed.{same_path}
 use Rattle.builder.proofs.Rising.{at_middle}
@@ -160,10 +161,10 @@ module _ (r : Rack) (route : ℕ → ℕ → Option ℕ) (count : ℕ) where
 
   -- what an answer says of the tables, in three kinds
   data Kind (was now : Tables) (a : Result (Unit {0}) BuildFault) : Type 0 where
-    range : a ≡ Err Lanes → (InRange count → ⊥) → now ≡ was → Kind was now a
-    short : a ≡ Err Short → InRange count → (LongEnough r was → ⊥) → now ≡ was → Kind was now a
-    fault : (f : BuildFault) → a ≡ Err f → InRange count → LongEnough r was → needed r now ≡ blank r → FirstLacks r route count f → Kind was now a
-    built : a ≡ Ok tt → InRange count → LongEnough r was → Built r route count (needed r now) → Kind was now a
+    range : a ≡ Err Lanes → (OneToEight count → ⊥) → now ≡ was → Kind was now a
+    short : a ≡ Err Short → OneToEight count → (LongEnough r was → ⊥) → now ≡ was → Kind was now a
+    fault : (f : BuildFault) → a ≡ Err f → OneToEight count → LongEnough r was → needed r now ≡ blank r → FirstLacks r route count f → Kind was now a
+    built : a ≡ Ok tt → OneToEight count → LongEnough r was → Built r route count (needed r now) → Kind was now a
 
   kind : (was now : Tables) (a : Result (Unit {0}) BuildFault) → Outcome r route count was now a → (a ≡ Err Memory → ⊥) → Kind was now a
   kind was now (Ok x) o m = built refl o.0 o.1 o.2

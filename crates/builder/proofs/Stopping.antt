@@ -20,7 +20,7 @@ step_on c = record { channel = record { 0 = c }; lane = record { number = 0; wit
 module _ (r : Rack) (route : ℕ → ℕ → Option ℕ) (p : Pair) where
   -- with room for every channel, memory is not wanting
   not_memory : (f : WalkFault) → WalkStops (alone r route) 8 p 0 (channel_count r) f → f ≡ Memory → ⊥
-  not_memory f w e = let short : channel_count r < channel_count r = subst (WalkStops (alone r route) 8 p 0 (channel_count r)) e w in omega arith
+  not_memory f w e = let short : PairOf r p.sender.0 p.receiver.0 × (channel_count r < channel_count r) = subst (WalkStops (alone r route) 8 p 0 (channel_count r)) e w in omega (arith, short.1)
 
   pub one_fault : (e f : WalkFault) → WalkStops (alone r route) 8 p 0 (channel_count r) e → WalkStops (alone r route) 8 p 0 (channel_count r) f → e ≡ f
   one_fault e f a b = one_walk_fault (alone r route) 8 p 0 (channel_count r) (channel_count r) e f a b (not_memory e a) (not_memory f b)

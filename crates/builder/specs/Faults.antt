@@ -11,6 +11,8 @@ pub record Refusal : Type 0 where
   pub about : Option Pair
   pub walk : Option WalkFault
 
+-- what is told where no plan is built: a lane count that is not 1 to 8, a table too short, the fault of a walk,
+-- a path that needs more lanes than there are, or one that no level has room for; want of memory has no number
 abbrev pub build_refusal : BuildFault → Refusal
 build_refusal Lanes = record { number = Some 10; about = None; walk = None }
 build_refusal Tables = record { number = Some 9; about = None; walk = None }

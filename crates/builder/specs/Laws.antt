@@ -7,10 +7,11 @@ use Rattle.routing.specs.Paths.{PairOf}
 use Rattle.builder.specs.declared.fault.BuildFault.{BuildFault}
 use Rattle.builder.specs.declared.fault.BuildFault.TheVariants.{Memory}
 use Rattle.builder.specs.Method.{PathOf, Middle, entry_of, Tables, Built}
-use Rattle.builder.specs.Outcomes.{InRange, needed, Outcome}
+use Rattle.routing.specs.Plans.{OneToEight}
+use Rattle.builder.specs.Outcomes.{needed, Outcome}
 
 -- every pair has a path, for which there are lanes enough, and a level, and every middle turn of the path has its own number for a lane there
-pub record Rises (r : Rack) (route : ℕ → ℕ → Option ℕ) (count : ℕ) (now : Tables) : Type 0 where
+pub record TurnsNumbered (r : Rack) (route : ℕ → ℕ → Option ℕ) (count : ℕ) (now : Tables) : Type 0 where
   pub paths : (u v : ℕ) → PairOf r u v → (path : List ℕ) × PathOf r route u v path × (length path ≤ count + 2)
   pub levels : (u v : ℕ) → PairOf r u v → slice_index now.levels (node_count r * u + v) < 16
   pub lanes :
@@ -19,7 +20,7 @@ pub record Rises (r : Rack) (route : ℕ → ℕ → Option ℕ) (count : ℕ) (
 
 -- so it is in every table that the method gives
 abbrev pub LanesRise : Type 0
-LanesRise = (r : Rack) (route : ℕ → ℕ → Option ℕ) (count : ℕ) (now : Tables) → InRange count → Built r route count now → Rises r route count now
+LanesRise = (r : Rack) (route : ℕ → ℕ → Option ℕ) (count : ℕ) (now : Tables) → OneToEight count → Built r route count now → TurnsNumbered r route count now
 
 -- a turn from a channel out of a host or to a channel into a host has lane 0 at every level
 abbrev pub EndsKeep0 : Rack → List ℕ → Type 0

@@ -10,10 +10,11 @@ use Rattle.routing.specs.Paths.{Routing, routing, hop, PairOf, OnPath, EndsAtHop
 abbrev pub alone : Rack → (ℕ → ℕ → Option ℕ) → Routing
 alone r route = routing r route (λ _ _ _. 0)
 
--- the channels of the steps of a path
+-- the channel of a step of a path
 abbrev pub channel_of : Step → ℕ
 channel_of p = p.channel.0
 
+-- the channels of the steps of a path
 abbrev pub channels_of : List Step → List ℕ
 channels_of steps = map channel_of steps
 
@@ -33,10 +34,11 @@ pub record Passes (r : Rack) (path : List ℕ) : Type 0 where
   pub turning : (j : ℕ) → Middle path j → turns r (slice_index path j) (slice_index path (j + 1)) ≡ true
   pub once : (i j : ℕ) → i < length path → j < length path → slice_index path i ≡ slice_index path j → i ≡ j
 
--- the entry of middle turn j at level s in the lane table, and the place of its byte
+-- the entry of middle turn j at level s in the lane table
 abbrev pub entry_of : Rack → List ℕ → List ℕ → ℕ → ℕ → ℕ
 entry_of r lanes path s j = stored_lane r lanes (slice_index path j) (slice_index path (j + 1)) s
 
+-- the place in the lane table of the entry of middle turn j at level s
 abbrev pub entry_place : Rack → List ℕ → ℕ → ℕ → ℕ
 entry_place r path s j = row_start (slice_index path j) (tail_port r (slice_index path (j + 1))) + s
 
@@ -65,6 +67,7 @@ pub record Tables : Type 0 where
   pub lanes : List ℕ
   pub levels : List ℕ
 
+-- a lane table and a path table, put together
 abbrev pub tables : List ℕ → List ℕ → Tables
 tables lanes levels = record { lanes = lanes; levels = levels }
 
@@ -78,7 +81,7 @@ pub record Placed (r : Rack) (path : List ℕ) (place s : ℕ) (was now : Tables
   pub claimed : Claimed r path s was.lanes now.lanes
   pub told : now.levels ≡ slice_set was.levels place s
 
--- the pair u, v has a path, whose middle turns need no more lanes than there are, and that path does this to the tables
+-- the pair u, v has a path, for which there are lanes enough, and what that path does to the tables is done (`Placed`)
 pub record PairBuilt (r : Rack) (route : ℕ → ℕ → Option ℕ) (count u v : ℕ) (was now : Tables) : Type 0 where
   pub path : List ℕ
   pub level : ℕ

@@ -5,15 +5,12 @@ use Rattle.rack.specs.Racks.{node_count, channel_count}
 use Rattle.routing.specs.declared.pair.Pair.{Pair}
 use Rattle.routing.specs.declared.fault.WalkFault.{WalkFault}
 use Rattle.routing.specs.Turns.{lane_bytes}
+use Rattle.routing.specs.Plans.{OneToEight}
 use Rattle.routing.specs.Paths.{PairOf}
 use Rattle.routing.specs.Walks.{WalkStops}
 use Rattle.builder.specs.declared.fault.BuildFault.{BuildFault}
 use Rattle.builder.specs.declared.fault.BuildFault.TheVariants.{Lanes, Tables as Short, Walk, Lane, Level, Memory}
 use Rattle.builder.specs.Method.{alone, PathOf, NoLevel, Tables, tables, blank, Receivers, Senders, Built}
-
--- there are 1 to 8 lanes
-abbrev pub InRange : ℕ → Type 0
-InRange count = (1 ≤ count) × (count ≤ 8)
 
 -- both tables are long enough
 abbrev pub LongEnough : Rack → Tables → Type 0
@@ -28,7 +25,7 @@ abbrev pub NoPath : Rack → (ℕ → ℕ → Option ℕ) → Pair → BuildFaul
 NoPath r route p f = (w : WalkFault) × (f ≡ Walk w) × WalkStops (alone r route) 8 p 0 (channel_count r) w
 
 module _ (r : Rack) (route : ℕ → ℕ → Option ℕ) (count : ℕ) where
-  -- what the pair lacks, at these tables: a path, then a lane for each middle turn and one more, then a level
+  -- what the pair lacks, at these tables: a path; then lanes: one for each middle turn, and lane 0; then a level
   abbrev pub Lacks : Pair → Tables → BuildFault → Type 0
   Lacks p was Lanes = ⊥
   Lacks p was Short = ⊥
@@ -56,14 +53,14 @@ module _ (r : Rack) (route : ℕ → ℕ → Option ℕ) (count : ℕ) where
 
   -- on a fault of a pair the needed places are 0
   abbrev pub Wiped : Tables → Tables → BuildFault → Type 0
-  Wiped was now f = InRange count × LongEnough r was × (needed r now ≡ blank r) × FirstLacks f
+  Wiped was now f = OneToEight count × LongEnough r was × (needed r now ≡ blank r) × FirstLacks f
 
   -- what becomes of the tables, and why: lane count, table lengths and memory are looked at first, in that order, and change nothing
   abbrev pub Outcome : Tables → Tables → Result (Unit {0}) BuildFault → Type 0
-  Outcome was now (Ok x) = InRange count × LongEnough r was × Built r route count (needed r now)
-  Outcome was now (Err Lanes) = (InRange count → ⊥) × (now ≡ was)
-  Outcome was now (Err Short) = InRange count × (LongEnough r was → ⊥) × (now ≡ was)
+  Outcome was now (Ok x) = OneToEight count × LongEnough r was × Built r route count (needed r now)
+  Outcome was now (Err Lanes) = (OneToEight count → ⊥) × (now ≡ was)
+  Outcome was now (Err Short) = OneToEight count × (LongEnough r was → ⊥) × (now ≡ was)
   Outcome was now (Err (Walk f)) = Wiped was now (Walk f)
   Outcome was now (Err (Lane p)) = Wiped was now (Lane p)
   Outcome was now (Err (Level p)) = Wiped was now (Level p)
-  Outcome was now (Err Memory) = InRange count × LongEnough r was × (now ≡ was)
+  Outcome was now (Err Memory) = OneToEight count × LongEnough r was × (now ≡ was)

@@ -4,8 +4,9 @@ ghost use Rattle.rack.specs.Racks.{node_count, channel_count};
 ghost use Rattle.routing.specs.Paths.{PairOf};
 ghost use Rattle.routing.specs.Turns.{lane_bytes};
 ghost use Rattle.builder.specs.Method.{channels_of, PathOf, tables, PairBuilt, Senders, blank};
-ghost use Rattle.builder.specs.Laws.{Rises, EndsKeep0};
-ghost use Rattle.builder.specs.Outcomes.{InRange, LongEnough, NoPath, Lacks, FirstLacks, Outcome};
+ghost use Rattle.builder.specs.Laws.{TurnsNumbered, EndsKeep0};
+ghost use Rattle.routing.specs.Plans.{OneToEight};
+ghost use Rattle.builder.specs.Outcomes.{LongEnough, NoPath, Lacks, FirstLacks, Outcome};
 
 use crate::fault::BuildFault;
 use crate::turns::{claim_all, lowest_level};
@@ -26,7 +27,7 @@ struct Given<'a, S> {
     rack: &'a Rack,
     source: &'a S,
     lane_count: u8,
-    ghost range: { InRange lane_count },
+    ghost range: { OneToEight lane_count },
 }
 
 // What all pairs share, and a list with room for the path of any one of them.
@@ -97,7 +98,7 @@ pub fn build<S: ForwardingSource>(
     levels: &mut [u8],
 ) -> Result<(), BuildFault>
     ensures answer { Outcome rack.now (S.ForwardingSource.route source.now) lane_count (tables lanes.old levels.old) (tables lanes.new levels.new) result }
-    ensures plan { OnOk result (Rises rack.now (S.ForwardingSource.route source.now) lane_count (tables lanes.new levels.new) × EndsKeep0 rack.now lanes.new) }
+    ensures plan { OnOk result (TurnsNumbered rack.now (S.ForwardingSource.route source.now) lane_count (tables lanes.new levels.new) × EndsKeep0 rack.now lanes.new) }
     ensures beyond { (drop (lane_bytes (channel_count rack.now)) lanes.new ≡ drop (lane_bytes (channel_count rack.now)) lanes.old) × (drop (node_count rack.now * node_count rack.now) levels.new ≡ drop (node_count rack.now * node_count rack.now) levels.old) }
 {
     if !(1..=8).contains(&lane_count) {

@@ -12,11 +12,11 @@ use Rattle.routing.specs.Paths.{Routing, Hop, PairOf, hop_at}
 use Rattle.routing.proofs.Tests.{both_snd, turns_below, turns_enters, entered}
 use Rattle.routing.proofs.Hops.{came, hop_below, from_first}
 use Rattle.checking.specs.Words.{bit, word_of, FollowedBy}
-use Rattle.checking.specs.Plans.{level_at, On, virtual, Follows, AllPairs, Exact}
+use Rattle.checking.specs.Plans.{level_at, On, virtual, IsFollowedBy, AllFine, Exact}
 use Rattle.checking.specs.Marks.{AllSay}
 use Rattle.checking.proofs.Scans.{followed_turns}
 
-module _ (g : Routing) (levels : List ℕ) (lanes : ℕ) (few : lanes ≤ 8) (fine : AllPairs g levels lanes) where
+module _ (g : Routing) (levels : List ℕ) (lanes : ℕ) (few : lanes ≤ 8) (fine : AllFine g levels lanes) where
   -- a hop and the next of a pair's path: channels, a turn, lanes
   pub record Turned (h o : Hop) : Type 0 where
     pub below : h.channel < channel_count g.rack
@@ -45,7 +45,7 @@ module _ (g : Routing) (levels : List ℕ) (lanes : ℕ) (few : lanes ≤ 8) (fi
         high = let l = (fine u v pair).low (suc i) o then in omega arith;
       }
 
-  said : (c p v q : ℕ) → 1 ≤ p → p ≤ 36 → v < 8 → q < 8 → AllSay g levels (turn_place c p) (8 * v + q) → (d : ℕ) × LeavingBy g.rack (head g.rack c) p d × Follows g levels (8 * c + v) (8 * d + q)
+  said : (c p v q : ℕ) → 1 ≤ p → p ≤ 36 → v < 8 → q < 8 → AllSay g levels (turn_place c p) (8 * v + q) → (d : ℕ) × LeavingBy g.rack (head g.rack c) p d × IsFollowedBy g levels (8 * c + v) (8 * d + q)
   said c p v q p1 p36 lv lq all =
       let a = all.0 in
       let b = all.1 in
@@ -77,7 +77,7 @@ module _ (g : Routing) (levels : List ℕ) (lanes : ℕ) (few : lanes ≤ 8) (fi
         },
       )
 
-  says : (c p v q d : ℕ) → v < 8 → q < 8 → LeavingBy g.rack (head g.rack c) p d → Follows g levels (8 * c + v) (8 * d + q) → AllSay g levels (turn_place c p) (8 * v + q)
+  says : (c p v q d : ℕ) → v < 8 → q < 8 → LeavingBy g.rack (head g.rack c) p d → IsFollowedBy g levels (8 * c + v) (8 * d + q) → AllSay g levels (turn_place c p) (8 * v + q)
   says c p v q d lv lq leaving f =
       let t = turned f.sender f.receiver f.place f.one f.other f.pair f.uses f.then in
       let ce : f.one.channel ≡ c = omega (arith, f.from, t.low) in
@@ -93,7 +93,7 @@ module _ (g : Routing) (levels : List ℕ) (lanes : ℕ) (few : lanes ≤ 8) (fi
         let m = marked (turn_place c p) (8 * v + q) (omega arith) in
         (λ h. said c p v q p1 p36 lv lq (m.0 h), λ f. m.1 (says c p v q f.0 lv lq f.1 f.2))
 
-    pub followed_to : (x y : ℕ) → FollowedBy g.rack table x y → Follows g levels x y
+    pub followed_to : (x y : ℕ) → FollowedBy g.rack table x y → IsFollowedBy g levels x y
     followed_to x y f =
         let c = x / 8 in
         let d = y / 8 in
@@ -107,9 +107,9 @@ module _ (g : Routing) (levels : List ℕ) (lanes : ℕ) (few : lanes ≤ 8) (fi
         let same : found.0 ≡ d = same_port g.rack (head g.rack c) (tail_port g.rack d) found.0 d found.1 ((ld, leaves), refl) in
         let xe : 8 * c + x % 8 ≡ x = omega arith in
         let ye : 8 * found.0 + y % 8 ≡ y = omega (arith, same) in
-        subst (λ n. Follows g levels n y) xe (subst (Follows g levels (8 * c + x % 8)) ye found.2)
+        subst (λ n. IsFollowedBy g levels n y) xe (subst (IsFollowedBy g levels (8 * c + x % 8)) ye found.2)
 
-    pub followed_from : (x y : ℕ) → Follows g levels x y → FollowedBy g.rack table x y
+    pub followed_from : (x y : ℕ) → IsFollowedBy g levels x y → FollowedBy g.rack table x y
     followed_from x y f =
         let t = turned f.sender f.receiver f.place f.one f.other f.pair f.uses f.then in
         let c = f.one.channel in
@@ -119,28 +119,28 @@ module _ (g : Routing) (levels : List ℕ) (lanes : ℕ) (few : lanes ≤ 8) (fi
         let yd : y / 8 ≡ d = omega (arith, f.to, t.high) in
         let yq : y % 8 ≡ f.other.lane = omega (arith, f.to, t.high) in
         let ports = tail_port_within g.rack d t.next in
-        let set = (exact c (tail_port g.rack d) f.one.lane f.other.lane t.below ports.0 ports.1 t.low t.high).1 (d, ((t.next, t.leaves), refl), subst (λ n. Follows g levels n (virtual f.other)) f.from (subst (Follows g levels x) f.to f)) in
+        let set = (exact c (tail_port g.rack d) f.one.lane f.other.lane t.below ports.0 ports.1 t.low t.high).1 (d, ((t.next, t.leaves), refl), subst (λ n. IsFollowedBy g levels n (virtual f.other)) f.from (subst (IsFollowedBy g levels x) f.to f)) in
         let word : word_of g.rack table c d ≡ get_or table (turn_place c (tail_port g.rack d)) 0 = cond-true _ _ _ t.turn in (
           omega (arith, f.from, t.low, t.below),
           omega (arith, f.to, t.high, t.next),
           rw (xc, xv, yd, yq) (subst (λ w. bit w (8 * f.one.lane + f.other.lane) ≡ true) (sym word) set),
         )
 
-    pub ranked_to : (n top : ℕ) (s t : List ℕ) → Ranked (FollowedBy g.rack table) n top s t → Ranked (Follows g levels) n top s t
+    pub ranked_to : (n top : ℕ) (s t : List ℕ) → Ranked (FollowedBy g.rack table) n top s t → Ranked (IsFollowedBy g levels) n top s t
     ranked_to n top s t r =
         record {
-          free = no_ring_under (Follows g levels) (FollowedBy g.rack table) followed_from r.free;
-          ranks = λ y l. rank_same (FollowedBy g.rack table) (Follows g levels) followed_to followed_from y (get_or t y 0) (r.ranks y l);
+          free = no_ring_under (IsFollowedBy g levels) (FollowedBy g.rack table) followed_from r.free;
+          ranks = λ y l. rank_same (FollowedBy g.rack table) (IsFollowedBy g levels) followed_to followed_from y (get_or t y 0) (r.ranks y l);
           most = r.most;
           peak = r.peak;
           none = r.none;
           rest = r.rest;
         }
 
-    pub ringed_to : (n len : ℕ) (s t u v : List ℕ) → Ringed (FollowedBy g.rack table) n len s t u v → Ringed (Follows g levels) n len s t u v
+    pub ringed_to : (n len : ℕ) (s t u v : List ℕ) → Ringed (FollowedBy g.rack table) n len s t u v → Ringed (IsFollowedBy g levels) n len s t u v
     ringed_to n len s t u v r =
         record {
-          ring = ring_under (FollowedBy g.rack table) (Follows g levels) followed_to (λ i. get_or v i 0) len r.ring;
+          ring = ring_under (FollowedBy g.rack table) (IsFollowedBy g levels) followed_to (λ i. get_or v i 0) len r.ring;
           short = r.short;
           ring_rest = r.ring_rest;
           zeros = r.zeros;

@@ -22,7 +22,7 @@ use Rattle.ranking.specs.declared.faults.RankFault.TheVariants.{Tables as ShortT
 use Rattle.ranking.specs.Graphs.{NoRing, Room, Ranked, Answered}
 use Rattle.ranking.proofs.Chains.{no_ring_from_rise, ranks_rise}
 use Rattle.rack.specs.declared.rack.Rack.{Rack}
-use Rattle.checking.specs.Plans.{FirstFault, level_at, Follows, AllPairs, Sound}
+use Rattle.checking.specs.Plans.{FirstFault, level_at, IsFollowedBy, AllFine, Sound}
 use Rattle.checking.proofs.Scans.{bit_zero, followed_turns}
 use Rattle.checking.proofs.Rising.{rising_free}
 use Rattle.checking.specs.Marks.{AllSay, Collected, Settled}
@@ -78,10 +78,10 @@ module _ (g : Routing) (levels : List ℕ) (lanes : ℕ) (before after : TablesA
   faulty p s (Elsewhere q k) pair arrives low h = stopped_undelivered g lanes p s (channel_count g.rack) (Elsewhere q k) h tt arrives
   faulty p s (Lane q k) pair arrives low h = let x = h.1 in omega (arith, low k x.0 x.1, x.2)
   faulty p s (OtherHost q k) pair arrives low h = stopped_undelivered g lanes p s (channel_count g.rack) (OtherHost q k) h tt arrives
-  faulty p s NoMemory pair arrives low h = omega arith
+  faulty p s NoMemory pair arrives low h = omega (arith, h.1)
 
   -- where all pairs are fine, nothing but a ring or want of memory stands against acceptance
-  fine_accepted : (r : Result Acceptance CheckFault) → Checked g levels lanes before after r → Starts g levels lanes before → AllPairs g levels lanes → NoRing (Follows g levels) → Accepted r
+  fine_accepted : (r : Result Acceptance CheckFault) → Checked g levels lanes before after r → Starts g levels lanes before → AllFine g levels lanes → NoRing (IsFollowedBy g levels) → Accepted r
   fine_accepted (Ok a) h s fine free = inl refl
   fine_accepted (Err (Ring n)) h s fine free = absurd (free _ n h.3.ring)
   fine_accepted (Err Memory) h s fine free = inr refl

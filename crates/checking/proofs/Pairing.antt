@@ -11,7 +11,7 @@ use Rattle.routing.specs.Paths.{Routing, PairOf}
 use Rattle.routing.specs.Pairs.{pair_place, NextPair}
 use Rattle.routing.proofs.PairOrder.{place_same, place_earlier}
 use Rattle.checking.specs.declared.fault.CheckFault.{CheckFault}
-use Rattle.checking.specs.Plans.{FinePair, AllPairs, AtFault, FirstFault}
+use Rattle.checking.specs.Plans.{FinePair, AllFine, AtFault, FirstFault}
 use Rattle.checking.specs.Marks.{Adds, PairSays, AllSay, Collected}
 use Rattle.checking.proofs.Adding.{adds_both, adds_none}
 
@@ -71,7 +71,7 @@ module _ (g : Routing) (levels : List ℕ) (lanes : ℕ) where
     )
 
   -- no pair is left
-  pub pairs_end : (k : ℕ) (s t : List ℕ) → NextPair g.rack k None → FirstFine g levels lanes k → Adds (FirstSay g levels k) s t → AllPairs g levels lanes × Adds (AllSay g levels) s t
+  pub pairs_end : (k : ℕ) (s t : List ℕ) → NextPair g.rack k None → FirstFine g levels lanes k → Adds (FirstSay g levels k) s t → AllFine g levels lanes × Adds (AllSay g levels) s t
   pairs_end k s t none fine adds = (
     λ u v p. fine u v p (none u v p),
     adds_both (FirstSay g levels k) (λ _ _. ⊥) (AllSay g levels) s t t
@@ -82,7 +82,7 @@ module _ (g : Routing) (levels : List ℕ) (lanes : ℕ) where
 
 -- the marks, from a table of zeros
 pub collected :
-    (g : Routing) (levels : List ℕ) (lanes : ℕ) (s t : List ℕ) → AllPairs g levels lanes → Adds (AllSay g levels) s t → ((k : ℕ) → get_or s k 0 ≡ 0) →
+    (g : Routing) (levels : List ℕ) (lanes : ℕ) (s t : List ℕ) → AllFine g levels lanes → Adds (AllSay g levels) s t → ((k : ℕ) → get_or s k 0 ≡ 0) →
     length t ≡ turn_count (channel_count g.rack) → Collected g levels lanes t
 collected g levels lanes s t fine adds zeros long = (
   fine,

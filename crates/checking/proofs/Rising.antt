@@ -9,7 +9,7 @@ use Rattle.ranking.proofs.Chains.{no_ring_from_rise}
 use Rattle.routing.specs.Sources.{is_end}
 use Rattle.routing.specs.Paths.{Routing, Hop}
 use Rattle.routing.proofs.Tests.{end_yes, end_no, entered, turns_enters}
-use Rattle.checking.specs.Plans.{Follows, AllPairs, Rises}
+use Rattle.checking.specs.Plans.{IsFollowedBy, AllFine, Rises}
 use Rattle.checking.proofs.Exactness.{Turned, turned}
 
 -- channels out of hosts come first, those into hosts last, and those between switches by their lanes
@@ -26,7 +26,7 @@ module _ (r : Rack) (c q : ℕ) where
   between : (Host r (tail r c) → ⊥) → (Host r (head r c) → ⊥) → order r c q ≡ 1 + q
   between n m = cond-false _ 0 _ (end_no r (tail r c) n) ∙ cond-false _ 9 _ (end_no r (head r c) m)
 
-module _ (g : Routing) (levels : List ℕ) (lanes : ℕ) (few : lanes ≤ 8) (fine : AllPairs g levels lanes) (rises : Rises g levels) where
+module _ (g : Routing) (levels : List ℕ) (lanes : ℕ) (few : lanes ≤ 8) (fine : AllFine g levels lanes) (rises : Rises g levels) where
   abbrev r : Rack
   r = g.rack
 
@@ -48,9 +48,9 @@ module _ (g : Routing) (levels : List ℕ) (lanes : ℕ) (few : lanes ≤ 8) (fi
       (host_or_switch r (head r o.channel) (head_below r o.channel t.next)))
       (host_or_switch r (tail r h.channel) (tail_below r h.channel t.below))
 
-  pub rising_free : NoRing (Follows g levels)
+  pub rising_free : NoRing (IsFollowedBy g levels)
   rising_free =
-      no_ring_from_rise (Follows g levels) (λ x. order r (x / 8) (x % 8))
+      no_ring_from_rise (IsFollowedBy g levels) (λ x. order r (x / 8) (x % 8))
       (λ x y f.
       let t = turned g levels lanes few fine f.sender f.receiver f.place f.one f.other f.pair f.uses f.then in
       let sw = (entered r f.one.channel (turns_enters r f.one.channel f.other.channel t.turn)).2 in

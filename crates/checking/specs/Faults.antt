@@ -13,6 +13,8 @@ pub record Refusal : Type 0 where
   pub about : Option Pair
   pub walk : Option WalkFault
 
+-- what is told where a plan is refused: a lane count that is not 1 to 8, a table too short, a pair whose level is above 15,
+-- the fault of a walk, or a ring; want of memory has no number
 abbrev pub check_refusal : CheckFault → Refusal
 check_refusal Lanes = record { number = Some 10; about = None; walk = None }
 check_refusal Tables = record { number = Some 9; about = None; walk = None }

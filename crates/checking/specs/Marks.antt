@@ -11,7 +11,7 @@ use Rattle.checking.specs.declared.fault.CheckFault.{CheckFault}
 use Rattle.checking.specs.declared.fault.CheckFault.TheVariants.{Lanes, Tables, Level, Walk, Ring, Memory}
 use Rattle.checking.specs.declared.acceptance.Acceptance.{Acceptance}
 use Rattle.ranking.specs.Graphs.{Ranked, Ringed}
-use Rattle.checking.specs.Plans.{On, AllPairs}
+use Rattle.checking.specs.Plans.{On, AllFine}
 
 -- exactly the bits of M were added
 abbrev pub Adds : (ℕ → ℕ → Type 0) → List ℕ → List ℕ → Type 0
@@ -36,7 +36,7 @@ AllSay g levels k b = (u : ℕ) × (v : ℕ) × PairOf g.rack u v × PairSays g 
 -- every pair is fine, and the marks are those of all pairs
 abbrev pub Collected : Routing → List ℕ → ℕ → List ℕ → Type 0
 Collected g levels lanes marks =
-    AllPairs g levels lanes × (length marks ≡ turn_count (channel_count g.rack)) × ((k b : ℕ) → (bit (slice_index marks k) b ≡ true ↔ AllSay g levels k b))
+    AllFine g levels lanes × (length marks ≡ turn_count (channel_count g.rack)) × ((k b : ℕ) → (bit (slice_index marks k) b ≡ true ↔ AllSay g levels k b))
 
 -- what ranking the virtual channels answers, as the table tells them
 abbrev pub Settled : Rack → List ℕ → List ℕ → List ℕ → List ℕ → List ℕ → Result Acceptance CheckFault → Type 0

@@ -24,7 +24,7 @@ abbrev pub virtual : Hop → ℕ
 virtual h = 8 * h.channel + h.lane
 
 -- virtual channel x is followed by y: the path of some pair uses x, and directly after it y
-pub record Follows (g : Routing) (levels : List ℕ) (x y : ℕ) : Type 0 where
+pub record IsFollowedBy (g : Routing) (levels : List ℕ) (x y : ℕ) : Type 0 where
   pub sender : ℕ
   pub receiver : ℕ
   pub place : ℕ
@@ -43,21 +43,21 @@ pub record FinePair (g : Routing) (levels : List ℕ) (lanes u v : ℕ) : Type 0
   pub low : (i : ℕ) (h : Hop) → On g levels u v i h → h.lane < lanes
 
 -- every pair is fine
-abbrev pub AllPairs : Routing → List ℕ → ℕ → Type 0
-AllPairs g levels lanes = (u v : ℕ) → PairOf g.rack u v → FinePair g levels lanes u v
+abbrev pub AllFine : Routing → List ℕ → ℕ → Type 0
+AllFine g levels lanes = (u v : ℕ) → PairOf g.rack u v → FinePair g levels lanes u v
 
--- a sound plan: all that holds of every pair, and no virtual channels follow one another in a ring
+-- a sound plan: every pair is fine, and no virtual channels follow one another in a ring
 pub record Sound (g : Routing) (levels : List ℕ) (lanes : ℕ) : Type 0 where
-  pub pairs : AllPairs g levels lanes
-  pub no_ring : NoRing (Follows g levels)
+  pub pairs : AllFine g levels lanes
+  pub no_ring : NoRing (IsFollowedBy g levels)
 
 -- the dependency table: bit 8v + q of place 36c + p - 1 is 1 exactly where lane v of channel c is followed by lane q of the channel that leaves by port p
 abbrev pub Exact : Routing → List ℕ → List ℕ → Type 0
 Exact g levels table =
     (c p v q : ℕ) → c < channel_count g.rack → 1 ≤ p → p ≤ 36 → v < 8 → q < 8 →
-    (bit (slice_index table (turn_place c p)) (8 * v + q) ≡ true ↔ ((d : ℕ) × LeavingBy g.rack (head g.rack c) p d × Follows g levels (8 * c + v) (8 * d + q)))
+    (bit (slice_index table (turn_place c p)) (8 * v + q) ≡ true ↔ ((d : ℕ) × LeavingBy g.rack (head g.rack c) p d × IsFollowedBy g levels (8 * c + v) (8 * d + q)))
 
--- the pairs come by ascending sender, and then receiver
+-- the pair a, b comes before the pair u, v: by sender, and then by receiver
 abbrev pub Earlier : ℕ → ℕ → ℕ → ℕ → Type 0
 Earlier a b u v = (a < u) ⊎ ((a ≡ u) × (b < v))
 

@@ -3,12 +3,9 @@ use Rattle.std.specs.Prelude.{ℕ, ◌*◌, ◌≤◌}
 use Rattle.rack.specs.declared.rack.Rack.{Rack}
 use Rattle.rack.specs.Racks.{node_count, channel_count}
 use Rattle.routing.specs.Turns.{turn_count}
+use Rattle.routing.specs.Plans.{OneToEight}
 use Rattle.checking.specs.declared.fault.CheckFault.{CheckFault}
 use Rattle.checking.specs.declared.fault.CheckFault.TheVariants.{Lanes, Tables, Level, Walk, Ring, Memory}
-
--- the lane count is in range
-abbrev pub Ranged : ℕ → Type 0
-Ranged lanes = (1 ≤ lanes) × (lanes ≤ 8)
 
 -- the path, dependency, rank and ring tables have the places needed
 abbrev pub Long : Rack → ℕ → ℕ → ℕ → ℕ → Type 0
@@ -17,8 +14,8 @@ Long r levels dependencies ranks ring =
 
 -- why nothing was looked at: the lane count is out of range; else a table is too short
 abbrev pub StartRefused : ℕ → Type 0 → CheckFault → Type 0
-StartRefused lanes long Lanes = Ranged lanes → ⊥
-StartRefused lanes long Tables = Ranged lanes × (long → ⊥)
+StartRefused lanes long Lanes = OneToEight lanes → ⊥
+StartRefused lanes long Tables = OneToEight lanes × (long → ⊥)
 StartRefused lanes long (Level p) = ⊥
 StartRefused lanes long (Walk f) = ⊥
 StartRefused lanes long (Ring n) = ⊥

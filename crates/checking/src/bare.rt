@@ -57,7 +57,7 @@ where
 impl Graph for Channels<'_> {
     ghost size = { λ g. channel_count g.rack.now };
 
-    ghost follows = { λ g c d. ChannelFollowedBy g.rack.now g.dependencies.now c d };
+    ghost followed_by = { λ g c d. ChannelFollowedBy g.rack.now g.dependencies.now c d };
 
     fn points(&self) -> u16 {
         self.rack.channel_count() as u16

@@ -76,7 +76,7 @@ where
 impl Graph for VirtualChannels<'_> {
     ghost size = { λ g. 8 * channel_count g.rack.now };
 
-    ghost follows = { λ g x y. FollowedBy g.rack.now g.dependencies.now x y };
+    ghost followed_by = { λ g x y. FollowedBy g.rack.now g.dependencies.now x y };
 
     fn points(&self) -> u16 {
         virtual_channels(self.rack) as u16

@@ -4,7 +4,7 @@ ghost use Rattle.rack.specs.Racks.{channel_count};
 ghost use Rattle.routing.specs.Turns.{turns, turn_count};
 ghost use Rattle.routing.specs.Paths.{PairOf};
 ghost use Rattle.routing.specs.Walks.{hop_of};
-ghost use Rattle.checking.specs.Plans.{FinePair, AllPairs, AtFault, FirstFault};
+ghost use Rattle.checking.specs.Plans.{FinePair, AllFine, AtFault, FirstFault};
 ghost use Rattle.routing.specs.Plans.{routing_of};
 ghost use Rattle.checking.specs.Marks.{Adds, Says, ListSays, PairSays, AllSay};
 
@@ -72,7 +72,7 @@ impl<S: ForwardingSource, M: LaneMap> Marker<'_, S, M> {
     // All pairs, by ascending sender and then receiver; the first fault is the answer.
     pub fn mark_all(&mut self) -> Result<(), CheckFault>
         ensures plan { self.new.plan ≡ self.old.plan }
-        ensures fine { OnOk result (AllPairs (routing_of S.route M.lanes self.old.plan.now) self.old.plan.now.levels.now self.old.plan.now.lanes) }
+        ensures fine { OnOk result (AllFine (routing_of S.route M.lanes self.old.plan.now) self.old.plan.now.levels.now self.old.plan.now.lanes) }
         ensures marks { OnOk result (Adds (AllSay (routing_of S.route M.lanes self.old.plan.now) self.old.plan.now.levels.now) self.old.marks.items self.new.marks.items) }
         ensures fault { IfErr result (FirstFault (routing_of S.route M.lanes self.old.plan.now) self.old.plan.now.levels.now self.old.plan.now.lanes) }
     {

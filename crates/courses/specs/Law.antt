@@ -43,10 +43,11 @@ abbrev pub hops_from : {P : Type 0} → (P → List ℕ) → ℕ → Queues P �
 hops_from path_of i [] = 0
 hops_from path_of i (ps ∷ q) = sum_by (λ p. ahead (path_of p) i) ps + hops_from path_of (suc i) q
 
+-- the hops ahead of all packets in the queues
 abbrev pub hops : {P : Type 0} → (P → List ℕ) → Queues P → ℕ
 hops path_of q = hops_from path_of 0 q
 
--- of a course: the packets admitted, the packets taken, and how many forwards and takes were accepted
+-- of a course: the packets admitted, in their order
 abbrev pub entered : {P : Type 0} → List (Event P) → List P
 entered [] = []
 entered (refused ∷ es) = entered es
@@ -54,6 +55,7 @@ entered (admitted p ∷ es) = p ∷ entered es
 entered (forwarded ∷ es) = entered es
 entered (taken p ∷ es) = entered es
 
+-- of a course: the packets taken, in their order
 abbrev pub left : {P : Type 0} → List (Event P) → List P
 left [] = []
 left (refused ∷ es) = left es
@@ -61,6 +63,7 @@ left (admitted p ∷ es) = left es
 left (forwarded ∷ es) = left es
 left (taken p ∷ es) = p ∷ left es
 
+-- of a course: how many forwards and takes were accepted
 abbrev pub moves : {P : Type 0} → List (Event P) → ℕ
 moves [] = 0
 moves (refused ∷ es) = moves es
@@ -82,6 +85,7 @@ pub data Stirs {P : Type 0} (rules : Rules P) (q : Queues P) : Type 0 where
   by_forward : (x : ℕ) (q' : Queues P) → Forwards rules q x q' → Stirs rules q
   by_take : (x : ℕ) (p : P) (q' : Queues P) → Takes rules q x p q' → Stirs rules q
 
+-- the queues are empty: no packet waits
 abbrev pub Empty : {P : Type 0} → Queues P → Type 0
 Empty q = (x : ℕ) → at q x ≡ []
 
@@ -91,6 +95,7 @@ pub record OnWay {P : Type 0} (rules : Rules P) (path_of : P → List ℕ) (x : 
   pub starts : rules.start p ≡ to first
   pub some_ahead : 0 < ahead (path_of p) x
 
+-- every packet that waits is one that can be admitted, and waits in a queue of its path
 abbrev pub Placed : {P : Type 0} → Rules P → (P → List ℕ) → Queues P → Type 0
 Placed rules path_of q = (x : ℕ) → All (OnWay rules path_of x) (at q x)
 
@@ -100,9 +105,9 @@ pub record Law {P : Type 0} (rules : Rules P) (path_of : P → List ℕ) (q : Qu
   pub placed : Placed rules path_of q'
   -- while a packet waits, some forward or take would be accepted
   pub alive : (x : ℕ) (p : P) (rest : List P) → at q' x ≡ p ∷ rest → Stirs rules q'
-  -- each accepted forward or take is one of the hops that were ahead, of the packets that waited or were admitted
+  -- accepted forwards and takes, and the hops still ahead, are together the hops ahead before and those of the packets admitted
   pub counted : moves events + hops path_of q' ≡ hops path_of q + sum_by (λ p. length (path_of p)) (entered events)
-  -- none is ahead exactly when the queues are empty
+  -- no hop is ahead exactly when the queues are empty
   pub settled : Empty q' ↔ (hops path_of q' ≡ 0)
   -- with no packet admitted, the queues are empty exactly when as many forwards and takes were accepted as hops were ahead
   pub drained : entered events ≡ [] → Empty q' ↔ (moves events ≡ hops path_of q)

@@ -17,6 +17,7 @@ pub record Rules (P : Type 0) : Type 0 where
 abbrev pub Queues : Type 0 → Type 0
 Queues P = List (List P)
 
+-- the packets of queue x; none where there is no such queue
 abbrev pub at : {P : Type 0} → Queues P → ℕ → List P
 at q x = slice_index_or q x []
 

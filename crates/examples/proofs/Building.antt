@@ -12,7 +12,8 @@ use Rattle.routing.specs.Walks.{WalkStops}
 use Rattle.routing.specs.Paths.{Hop, hop, PairOf, OnPath, EndsAtHop}
 use Rattle.builder.specs.Method.{alone, PathOf, Middle, entry_of, entry_place, Fits, Claimed, Tables, tables, blank, PairBuilt, Taken, Receivers, Senders, Built}
 use Rattle.builder.specs.declared.fault.BuildFault.TheVariants.{Lane, Walk}
-use Rattle.builder.specs.Outcomes.{InRange, needed, FirstLacks, Outcome}
+use Rattle.routing.specs.Plans.{OneToEight}
+use Rattle.builder.specs.Outcomes.{needed, FirstLacks, Outcome}
 use Rattle.builder.proofs.Single.{one_outcome}
 use Rattle.examples.specs.Racks.{pair_of}
 use Rattle.examples.specs.Builds.{zeros_but, blank_but, BuildsTo, NotBuilt}
@@ -249,7 +250,7 @@ module _ (r : Rack) (laid : Laid r) (route : ℕ → ℕ → Option ℕ) (net : 
       λ i. tables (lanes i) (levels i)
 
   -- where all went well, the builder gives the tables that the sheet tells
-  pub builds_to : (ws ls : List (ℕ × ℕ)) → InRange count → tells (take_all_of task (length laid.nodes) empty) ws ls ≡ true → BuildsTo r route count (blank_but r ws ls)
+  pub builds_to : (ws ls : List (ℕ × ℕ)) → OneToEight count → tells (take_all_of task (length laid.nodes) empty) ws ls ≡ true → BuildsTo r route count (blank_but r ws ls)
   builds_to ws ls range told was now a h =
       let t = take_all_of task (length laid.nodes) empty in
       let parts = and_parts t.ok _ told in
@@ -260,7 +261,7 @@ module _ (r : Rack) (laid : Laid r) (route : ℕ → ℕ → Option ℕ) (net : 
       (one.0, one.1 ∙ needed_is t ∙ sheet_is t ws ls parts.1)
 
   -- where a pair's path is too long for the lanes, and all went well before, the builder tells that pair
-  pub lane_told : InRange count → (u v : ℕ) → PairOf r u v → (take_row task u v (take_all_of task u empty)).ok ≡ true → walks task u v ≡ true → count + 2 < length (way task u v) →
+  pub lane_told : OneToEight count → (u v : ℕ) → PairOf r u v → (take_row task u v (take_all_of task u empty)).ok ≡ true → walks task u v ≡ true → count + 2 < length (way task u v) →
       NotBuilt r route count (Lane (pair_of u v))
   lane_told range u v pair ok walked long was now a h =
       let before = take_all_of task u empty in
@@ -299,7 +300,7 @@ module _ (r : Rack) (laid : Laid r) (route : ℕ → ℕ → Option ℕ) (net : 
 
   -- where the walk of a pair of sender 0 stops, and all went well before, the builder tells that fault
   pub walk_told :
-      (many v : ℕ) (f : WalkFault) → InRange many → count ≤ many → PairOf r 0 v → (take_row task 0 v empty).ok ≡ true →
+      (many v : ℕ) (f : WalkFault) → OneToEight many → count ≤ many → PairOf r 0 v → (take_row task 0 v empty).ok ≡ true →
       WalkStops (alone r route) 8 (pair_of 0 v) 0 (channel_count r) f → NotBuilt r route many (Walk f)
   walk_told many v f range l pair ok stops was now a h =
       let here = take_row task 0 v empty in

@@ -12,7 +12,7 @@ use Rattle.checking.specs.declared.acceptance.Acceptance.{Acceptance}
 use Rattle.checking.specs.declared.fault.CheckFault.{CheckFault}
 use Rattle.checking.specs.declared.fault.CheckFault.TheVariants.{Lanes, Tables, Level, Walk, Ring, Memory as NoMemory}
 use Rattle.checking.specs.Answers.{TablesAt, Starts, Checked}
-use Rattle.checking.specs.Plans.{level_at, FinePair, AllPairs, Earlier, FineBefore, FirstFault}
+use Rattle.checking.specs.Plans.{level_at, FinePair, AllFine, Earlier, FineBefore, FirstFault}
 use Rattle.examples.specs.Plans.{WalkTells}
 
 -- where the walk stops by a fault other than want of memory, it tells that fault
@@ -30,15 +30,15 @@ module _ (g : Routing) (levels : List ℕ) (lanes : ℕ) where
   fine_or_stops p (Elsewhere q k) pair fine e = stopped_undelivered g lanes p (level_at g.rack levels p.sender.0 p.receiver.0) (channel_count g.rack) (Elsewhere q k) e tt fine.arrives
   fine_or_stops p (Lane q k) pair fine e = omega (arith, fine.low k e.1.0 e.1.1, e.1.2)
   fine_or_stops p (OtherHost q k) pair fine e = stopped_undelivered g lanes p (level_at g.rack levels p.sender.0 p.receiver.0) (channel_count g.rack) (OtherHost q k) e tt fine.arrives
-  fine_or_stops p Memory pair fine e = omega (arith, e)
+  fine_or_stops p Memory pair fine e = omega (arith, e.1)
 
   not_memory : (p : Pair) (f : WalkFault) → WalkStops g lanes p (level_at g.rack levels p.sender.0 p.receiver.0) (channel_count g.rack) f → f ≢ Memory
   not_memory p f e m =
-      let none : channel_count g.rack < channel_count g.rack = subst (λ x. WalkStops g lanes p (level_at g.rack levels p.sender.0 p.receiver.0) (channel_count g.rack) x) m e in
-      omega (arith, none)
+      let none : PairOf g.rack p.sender.0 p.receiver.0 × (channel_count g.rack < channel_count g.rack) = subst (λ x. WalkStops g lanes p (level_at g.rack levels p.sender.0 p.receiver.0) (channel_count g.rack) x) m e in
+      omega (arith, none.1)
 
   -- a plan all of whose pairs are fine has no first fault
-  pub fine_no_fault : AllPairs g levels lanes → (f : CheckFault) → FirstFault g levels lanes f → ⊥
+  pub fine_no_fault : AllFine g levels lanes → (f : CheckFault) → FirstFault g levels lanes f → ⊥
   fine_no_fault all Lanes e = e.3
   fine_no_fault all Tables e = e.3
   fine_no_fault all (Level p) e = let fine = all e.0.sender.0 e.0.receiver.0 e.1 in omega (arith, fine.level, e.3.1)
@@ -50,7 +50,7 @@ module _ (g : Routing) (levels : List ℕ) (lanes : ℕ) where
       (flat : (u v : ℕ) → PairOf g.rack u v → level_at g.rack levels u v ≡ 0) (p : Pair) (pair : PairOf g.rack p.sender.0 p.receiver.0)
       (before : FineBefore g levels lanes p.sender.0 p.receiver.0) (f : WalkFault)
       (stops : WalkStops g lanes p (level_at g.rack levels p.sender.0 p.receiver.0) (channel_count g.rack) f) where
-    not_all : AllPairs g levels lanes → ⊥
+    not_all : AllFine g levels lanes → ⊥
     not_all all = fine_or_stops p f pair (all p.sender.0 p.receiver.0 pair) stops
 
     same_pair : (q : Pair) (e : WalkFault) → PairOf g.rack q.sender.0 q.receiver.0 → FineBefore g levels lanes q.sender.0 q.receiver.0 →

@@ -9,7 +9,7 @@ use Rattle.rack.specs.Racks.{nodes_of, cables_of, channel_count, Host, Leaving}
 use Rattle.rack.proofs.Facts.{host_below}
 use Rattle.routing.specs.Paths.{Routing, Hop, hop, PairOf, OnPath, Delivered}
 use Rattle.routing.proofs.Hops.{from_first}
-use Rattle.checking.specs.Plans.{level_at, virtual, Follows, FinePair, AllPairs}
+use Rattle.checking.specs.Plans.{level_at, virtual, IsFollowedBy, FinePair, AllFine}
 use Rattle.examples.proofs.Nets.{Net, IsNet, ahead, hop_same}
 use Rattle.examples.proofs.Walks.{all_below, all_pairs, from_below, from_pairs, implied, hops, ends, listed, each, links, from_each, from_links, lastly, from_lastly}
 
@@ -103,11 +103,11 @@ module _ (g : Routing) (l : Laid g.rack) where
           fine_pair n lanes u v pair
           (implied (p u v) _ (from_pairs l.hosts (λ u v. not (p u v) || fine l.cables m n lanes u v) t u v (host_low u pair.0) (host_low v pair.1) pair.2) is_so)
 
-      pub all_fine : (n lanes : ℕ) → all_pairs l.hosts (fine l.cables m n lanes) ≡ true → AllPairs g levels lanes
+      pub all_fine : (n lanes : ℕ) → all_pairs l.hosts (fine l.cables m n lanes) ≡ true → AllFine g levels lanes
       all_fine n lanes t u v pair = fine_pair n lanes u v pair (from_pairs l.hosts (fine l.cables m n lanes) t u v (host_low u pair.0) (host_low v pair.1) pair.2)
 
       -- what holds of every hop and the next holds of what follows
-      pub follow_linked : (n : ℕ) (p : ℕ → ℕ → Bool) → all_pairs l.hosts (linked m n (λ h o. p (virtual h) (virtual o))) ≡ true → (x y : ℕ) → Follows g levels x y → p x y ≡ true
+      pub follow_linked : (n : ℕ) (p : ℕ → ℕ → Bool) → all_pairs l.hosts (linked m n (λ h o. p (virtual h) (virtual o))) ≡ true → (x y : ℕ) → IsFollowedBy g levels x y → p x y ≡ true
       follow_linked n p t x y f =
           let u = f.sender in
           let v = f.receiver in
@@ -124,8 +124,8 @@ module _ (g : Routing) (l : Laid g.rack) where
           ∙ from_links (λ h o. p (virtual h) (virtual o)) (path_in m n u v) both.1 i h o (sym (all i) ∙ to_path u v i h f.pair.0 one) (sym (all (suc i)) ∙ to_path u v (suc i) o f.pair.0 other)
 
       -- a hop of a path and the next follow one another
-      pub follows : (u v i : ℕ) (h o : Hop) → PairOf g.rack u v → ahead m v i (Some (hop (2 * u) 0)) ≡ Some h → ahead m v (suc i) (Some (hop (2 * u) 0)) ≡ Some o → Follows g levels (virtual h) (virtual o)
-      follows u v i h o pair a b =
+      pub followed_by : (u v i : ℕ) (h o : Hop) → PairOf g.rack u v → ahead m v i (Some (hop (2 * u) 0)) ≡ Some h → ahead m v (suc i) (Some (hop (2 * u) 0)) ≡ Some o → IsFollowedBy g levels (virtual h) (virtual o)
+      followed_by u v i h o pair a b =
           let level : level_at g.rack levels u v ≡ 0 = flat u v pair in
           record {
             sender = u;

@@ -10,11 +10,11 @@ use Rattle.checking.specs.declared.acceptance.Acceptance.{Acceptance}
 use Rattle.checking.specs.declared.fault.CheckFault.{CheckFault}
 use Rattle.checking.specs.declared.fault.CheckFault.TheVariants.{Memory}
 use Rattle.checking.specs.Answers.{Checked, Accepted}
-use Rattle.checking.specs.Plans.{level_at, virtual, Follows, Sound}
+use Rattle.checking.specs.Plans.{level_at, virtual, IsFollowedBy, Sound}
 use Rattle.examples.specs.Plans.{AcceptedWith}
 use Rattle.examples.proofs.Nets.{Net, IsNet, ahead, behind_in}
 use Rattle.examples.proofs.Walks.{all_pairs}
-use Rattle.examples.proofs.Fine.{Laid, fine, linked, all_fine, follow_linked, follows}
+use Rattle.examples.proofs.Fine.{Laid, fine, linked, all_fine, follow_linked, followed_by}
 use Rattle.examples.proofs.Sheets.{val, at_most, val_low}
 
 module _ (f : ℕ → ℕ → Type 0) (high : ℕ → ℕ) (grows : (x y : ℕ) → f x y → high x < high y) where
@@ -50,18 +50,18 @@ module _ (g : Routing) (l : Laid g.rack) (m : Net) (is : IsNet g 0 m) (levels : 
   some_before v None h e = absurd (none-some h e)
   some_before v (Some o) h e = (o, refl)
 
-  chain : (u v k : ℕ) (h : Hop) → PairOf g.rack u v → ahead m v k (Some (hop (2 * u) 0)) ≡ Some h → ChainTo (Follows g levels) k (virtual h)
+  chain : (u v k : ℕ) (h : Hop) → PairOf g.rack u v → ahead m v k (Some (hop (2 * u) 0)) ≡ Some h → ChainTo (IsFollowedBy g levels) k (virtual h)
   chain u v zero h pair e = tt
   chain u v (suc k) h pair e =
       let o = some_before v (ahead m v k (Some (hop (2 * u) 0))) h e in
-      (virtual o.0, chain u v k o.0 pair o.1, follows g l m is levels flat u v k o.0 h pair o.1 e)
+      (virtual o.0, chain u v k o.0 pair o.1, followed_by g l m is levels flat u v k o.0 h pair o.1 e)
 
   module _ (lanes n : ℕ) (ranks : List (ℕ × ℕ)) (all_well : all_pairs l.hosts (fine l.cables m n lanes) ≡ true) (all_rise : all_pairs l.hosts (linked m n (rises ranks)) ≡ true) where
-    higher : (x y : ℕ) → Follows g levels x y → val ranks x < val ranks y
+    higher : (x y : ℕ) → IsFollowedBy g levels x y → val ranks x < val ranks y
     higher x y f = ltb-true (val ranks x) (val ranks y) (follow_linked g l m is levels flat n (λ x y. nat_lt (val ranks x) (val ranks y)) all_rise x y f)
 
     sound : Sound g levels lanes
-    sound = record { pairs = all_fine g l m is levels flat n lanes all_well; no_ring = no_ring (Follows g levels) (val ranks) higher }
+    sound = record { pairs = all_fine g l m is levels flat n lanes all_well; no_ring = no_ring (IsFollowedBy g levels) (val ranks) higher }
 
     other_fault : (f : CheckFault) → f ≢ Memory → Accepted (Err f) → ⊥
     other_fault f ne (inl e) = absurd (cc)
@@ -81,5 +81,5 @@ module _ (g : Routing) (l : Laid g.rack) (m : Net) (is : IsNet g 0 m) (levels : 
 
         by_answer : (a : Result Acceptance CheckFault) → Checked g levels lanes old new a → ((f : CheckFault) → a ≡ Err f → ⊥) → (k : Acceptance) × (a ≡ Ok k) × (k.greatest ≡ best)
         by_answer (Ok k) c none =
-            (k, refl, greatest_is (Follows g levels) (val ranks) higher (8 * channel_count g.rack) k.greatest best (virtual h) old.ranks new.ranks c.3 (val_low best ranks low) point (chain u v best h pair here))
+            (k, refl, greatest_is (IsFollowedBy g levels) (val ranks) higher (8 * channel_count g.rack) k.greatest best (virtual h) old.ranks new.ranks c.3 (val_low best ranks low) point (chain u v best h pair here))
         by_answer (Err f) c none = absurd (none f refl)

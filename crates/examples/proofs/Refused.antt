@@ -15,7 +15,7 @@ use Rattle.routing.specs.Sources.{stored_route}
 use Rattle.checking.specs.declared.fault.CheckFault.TheVariants.{Walk}
 use Rattle.checking.specs.Plans.{level_at, FinePair, Earlier, FineBefore}
 use Rattle.builder.specs.Method.{alone}
-use Rattle.builder.specs.Outcomes.{InRange}
+use Rattle.routing.specs.Plans.{OneToEight}
 use Rattle.builder.specs.declared.fault.BuildFault.TheVariants.{Walk as NoWalk}
 use Rattle.examples.specs.Racks.{AllZero, Triangle, pair_of, stored_rows, stored_two_hop}
 use Rattle.examples.specs.Plans.{RefusedWith, WalkTells}
@@ -85,7 +85,7 @@ module _ (r : Rack) (t : Triangle r) (lane : ℕ → ℕ → ℕ → ℕ) (count
       ((hop 6 0, stop), sym (channels12 r t))
 
 -- so the walk, the check and the builder tell it
-module _ (r : Rack) (forwarding lanes levels : List ℕ) (count : ℕ) (t : Triangle r) (zl : AllZero lanes) (z : AllZero levels) (range : InRange count) (f : WalkFault) (ne : f ≢ Memory) where
+module _ (r : Rack) (forwarding lanes levels : List ℕ) (count : ℕ) (t : Triangle r) (zl : AllZero lanes) (z : AllZero levels) (range : OneToEight count) (f : WalkFault) (ne : f ≢ Memory) where
   told_by_all :
       all_pairs 3 (λ a b. not (nat_lt a 0 || (a == 0 && nat_lt b 2)) || fine triangle_cables (on_zero forwarding) 5 1 a b) ≡ true →
       (take_row (task r (laid r t) (stored_route r forwarding) (on_zero forwarding) (is_alone r forwarding t) 5 1) 0 2 empty).ok ≡ true →

@@ -17,7 +17,7 @@ zeros_but n (w ∷ ws) = slice_set (zeros_but n ws) w.0 w.1
 abbrev pub blank_but : Rack → List (ℕ × ℕ) → List (ℕ × ℕ) → Tables
 blank_but r lanes levels = tables (zeros_but (lane_bytes (channel_count r)) lanes) (zeros_but (node_count r * node_count r) levels)
 
--- the tables are long enough and there is memory, and by its contract the builder answers a and makes the tables that were those now
+-- the tables are long enough and there is memory, and the builder's contract allows the answer a, with the tables `was` before and `now` after
 pub record BuildAnswers (r : Rack) (route : ℕ → ℕ → Option ℕ) (count : ℕ) (was now : Tables) (a : Result (Unit {0}) BuildFault) : Type 0 where
   pub long : LongEnough r was
   pub outcome : Outcome r route count was now a

@@ -18,10 +18,11 @@ use Rattle.fabric.specs.Courses.{Performs}
 use Rattle.examples.specs.Racks.{Triangle, pair_of, stored_rows}
 use Rattle.examples.specs.Triangles.{two_lane_tables}
 
--- lane 0 and lane 1
+-- lane 0
 abbrev pub lane_0 : UpTo 7
 lane_0 = record { number = 0; within = lit≤ tt }
 
+-- lane 1
 abbrev pub lane_1 : UpTo 7
 lane_1 = record { number = 1; within = lit≤ tt }
 

@@ -11,7 +11,7 @@ use Rattle.checking.specs.declared.fault.CheckFault.{CheckFault}
 use Rattle.checking.specs.declared.fault.CheckFault.TheVariants.{Memory}
 use Rattle.checking.specs.Answers.{TablesAt, Starts, Checked, ExactlySound}
 
--- the check can start and has memory, and by its contract it answers a and makes the tables before those after
+-- the check can start and has memory, and its contract allows the answer a, with the tables `before` before it and `after` after it
 pub record CheckAnswers (g : Routing) (levels : List ℕ) (lanes : ℕ) (before after : TablesAt) (a : Result Acceptance CheckFault) : Type 0 where
   pub starts : Starts g levels lanes before
   pub checked : Checked g levels lanes before after a

@@ -9,10 +9,11 @@ use Rattle.routing.specs.Sources.{stored_route, downhill_route}
 use Rattle.routing.specs.Turns.{two_hop, stored_lane}
 use Rattle.routing.specs.Ways.{Distances}
 
--- a rack with the tables of the triangle; of the line
+-- a rack with the tables of the triangle
 abbrev pub Triangle : Rack → Type 0
 Triangle r = (nodes_of r ≡ triangle_nodes) × (cables_of r ≡ triangle_cables)
 
+-- a rack with the tables of the line
 abbrev pub Line : Rack → Type 0
 Line r = (nodes_of r ≡ line_nodes) × (cables_of r ≡ line_cables)
 

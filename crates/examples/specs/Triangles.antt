@@ -13,7 +13,8 @@ use Rattle.checking.specs.declared.fault.CheckFault.TheVariants.{Walk, Ring}
 use Rattle.checking.specs.Answers.{TablesAt}
 use Rattle.builder.specs.declared.fault.BuildFault.TheVariants.{Lane as NoLane, Walk as NoWalk}
 use Rattle.builder.specs.Method.{Tables, tables}
-use Rattle.builder.specs.Outcomes.{InRange, needed}
+use Rattle.routing.specs.Plans.{OneToEight}
+use Rattle.builder.specs.Outcomes.{needed}
 use Rattle.examples.specs.Racks.{Triangle, AllZero, pair_of, stored_rows, stored_two_hop}
 use Rattle.examples.specs.Plans.{CheckAnswers, AcceptedWith, RefusedWith, WalkTells}
 use Rattle.examples.specs.Builds.{blank_but, BuildsTo, NotBuilt}
@@ -60,7 +61,7 @@ TwoHopOneLane =
 -- with another entry at one place the walk from 0 to 2 on lane 0 tells the fault, and so do the check and the builder, whatever the lane count
 abbrev pub ChangedTells : ℕ → ℕ → WalkFault → Type 0
 ChangedTells place entry f =
-    (r : Rack) (lanes levels : List ℕ) (count : ℕ) → Triangle r → AllZero lanes → AllZero levels → InRange count →
+    (r : Rack) (lanes levels : List ℕ) (count : ℕ) → Triangle r → AllZero lanes → AllZero levels → OneToEight count →
     WalkTells (stored_rows r (slice_set CLOCKWISE place entry) lanes) count (pair_of 0 2) 0 f
     × RefusedWith (stored_rows r (slice_set CLOCKWISE place entry) lanes) levels count (Walk f)
     × NotBuilt r (stored_route r (slice_set CLOCKWISE place entry)) count (NoWalk f)

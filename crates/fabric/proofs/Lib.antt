@@ -8,3 +8,4 @@ mod Questions
 pub mod Determined
 mod Lawful
 mod Courses
+mod Listed

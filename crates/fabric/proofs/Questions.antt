@@ -11,7 +11,7 @@ use Rattle.routing.specs.Turns.{turns}
 use Rattle.routing.specs.Paths.{Hop, hop}
 use Rattle.routing.specs.Walks.{Advances}
 use Rattle.routing.proofs.Hops.{only_out}
-use Rattle.checking.specs.Starts.{Ranged}
+use Rattle.routing.specs.Plans.{OneToEight}
 use Rattle.checking.specs.Plans.{virtual}
 use Rattle.courses.specs.Queues.{Queues, at}
 use Rattle.fabric.specs.declared.packet.Packet.{Packet}
@@ -51,7 +51,7 @@ same_head l p o ps os a b = (cc, cc)
 module _ (s : Setup) (qs : Queues Packet) where
   -- of an admit
   abbrev pub AdmitAsks : Pair → ℕ → Type 0
-  AdmitAsks p zero = Ranged s.lanes
+  AdmitAsks p zero = OneToEight s.lanes
   AdmitAsks p (suc zero) = EnoughFor s qs
   AdmitAsks p (suc (suc zero)) = PairHere s p
   AdmitAsks p (suc (suc (suc zero))) = level_for s p ≤ 15
@@ -111,7 +111,7 @@ module _ (s : Setup) (qs : Queues Packet) where
 
     -- first whether there is a packet, and then more
     abbrev Asks : (ℕ → Type 0) → ℕ → Type 0
-    Asks more zero = Ranged s.lanes
+    Asks more zero = OneToEight s.lanes
     Asks more (suc zero) = EnoughFor s qs
     Asks more (suc (suc zero)) = x < queue_count s
     Asks more (suc (suc (suc zero))) = 0 < length (at qs x)

@@ -5,22 +5,22 @@ use Rattle.std.proofs.lemmas.Bool.{both_ways, cases_eq, cases_lt, cases_Bool, co
 use Rattle.std.proofs.lemmas.Bool.Decides.{nat_tests}
 use Rattle.std.proofs.lemmas.Option.{same_Some}
 use Rattle.rack.specs.declared.rack.Rack.{Rack}
-use Rattle.rack.specs.Racks.{channel_count, head, tail, Host, Leaving}
+use Rattle.rack.specs.Racks.{channel_count, head, Leaving}
 use Rattle.rack.proofs.Facts.{one_out}
 use Rattle.routing.specs.declared.pair.Pair.{Pair}
 use Rattle.routing.specs.Sources.{enters_switch, is_end}
 use Rattle.routing.specs.Paths.{Routing, Hop, hop, behind, hop_at, EndsAtHop}
-use Rattle.routing.proofs.Sourced.{least_some}
-use Rattle.routing.proofs.Hops.{only_out, behind_ends, hop_below, hop_last, from_first}
+use Rattle.routing.proofs.Hops.{behind_ends, hop_below, hop_last, from_first}
 use Rattle.routing.proofs.Rounds.{into_host, before, delivered_in_time, no_channel_twice}
-use Rattle.checking.specs.Starts.{Ranged}
-use Rattle.checking.specs.Plans.{virtual, Follows, FinePair, Sound}
+use Rattle.routing.specs.Plans.{OneToEight}
+use Rattle.checking.specs.Plans.{virtual, IsFollowedBy, FinePair, Sound}
 use Rattle.courses.specs.Queues.{Onward, to, home, nowhere, Rules}
 use Rattle.courses.specs.Law.{Path, ends, goes, Next, Once, Followed, Routed}
 use Rattle.fabric.specs.declared.packet.Delivery.{Delivery}
 use Rattle.fabric.specs.Calls.{Setup, queue_count, level_for, PairHere}
-use Rattle.fabric.specs.Courses.{then_on, hops_on, channel_out, path_from, path, path_of}
+use Rattle.fabric.specs.Courses.{then_on, hops_on, channel_out, path, path_of}
 use Rattle.fabric.proofs.Hops.{all_hops, once, next_hops, no_more}
+use Rattle.fabric.proofs.Listed.{out_is, list_is}
 
 -- the channel and the lane of a virtual channel's number
 channel_of : (h : Hop) → h.lane < 8 → virtual h / 8 ≡ h.channel
@@ -28,12 +28,6 @@ channel_of h l = omega arith
 
 pub hop_again : (h : Hop) → h.lane < 8 → hop (virtual h / 8) (virtual h % 8) ≡ h
 hop_again h l = let lane : virtual h % 8 ≡ h.lane = omega arith in λ i. hop (channel_of h l i) (lane i)
-
--- a host has one channel out
-pub out_is : (r : Rack) (u c : ℕ) → Host r u → Leaving r u c → channel_out r u ≡ Some c
-out_is r u c host leaving =
-    least_some (λ d. eqb (tail r d) u) 0 (channel_count r) c (omega arith) (omega (arith, leaving.0)) (eq-eqb (tail r c) u leaving.1)
-    (λ i l m. ne_eqb (tail r i) u (λ e. let same : i ≡ c = only_out r u i c host (omega (arith, leaving.0), e) leaving in omega arith))
 
 -- where packets start, and where they go on
 abbrev pub from_channel : Option ℕ → Onward
@@ -80,7 +74,7 @@ module _ (s : Setup) (d : Delivery) where
 -- the path of a pair of a sound plan
 -- a plan whose lane count is in range and that is sound
 pub record Good (s : Setup) : Type 0 where
-  pub ranged : Ranged s.lanes
+  pub ranged : OneToEight s.lanes
   pub sound : Sound s.routes s.levels s.lanes
 
 module _ {s : Setup} (good : Good s) (p : Pair) (pair : PairHere s p) where
@@ -111,7 +105,7 @@ module _ {s : Setup} (good : Good s) (p : Pair) (pair : PairHere s p) where
   HopIs i h = hop_at g out v level i ≡ Some h
 
   pub path_is : path s p ≡ hops_on g out v level 0 (channel_count r)
-  path_is = ap (path_from s p) (out_is r u out pair.0 out_leaves)
+  path_is = list_is s p pair
 
   fine : FinePair g s.levels s.lanes u v
   fine = good.sound.pairs u v pair
@@ -214,7 +208,7 @@ module _ {s : Setup} (good : Good s) (p : Pair) (pair : PairHere s p) where
   pub its_once : Once (path s p)
   its_once = let l = last_hop in subst Once (sym path_is) (once g out v level 0 (channel_count r) (λ j k h o le. apart l.0 l.1 l.2 j k h o))
 
-  pub its_follows : (x y : ℕ) → Next x y (path s p) → Follows g s.levels x y
+  pub its_follows : (x y : ℕ) → Next x y (path s p) → IsFollowedBy g s.levels x y
   its_follows x y next =
       let b = next_hops g out v level x y 0 (channel_count r) (subst (Next x y) path_is next) in
       record { sender = u; receiver = v; place = b.0; one = b.1; other = b.2; pair = pair; uses = (out, out_leaves, b.3); then = (out, out_leaves, b.4); from = b.5; to = b.6 }
@@ -234,5 +228,5 @@ routed {s = s} good deep = record {
   free = λ at len ring. good.sound.no_ring at len (record { some = ring.some; steps = λ i l. follow (at i) (at (i + 1)) (ring.steps i l); closes = follow (at (len - 1)) (at 0) ring.closes; apart = ring.apart });
 }
   where
-    follow : (x y : ℕ) → Followed (rules s) (path_of s) x y → Follows s.routes s.levels x y
+    follow : (x y : ℕ) → Followed (rules s) (path_of s) x y → IsFollowedBy s.routes s.levels x y
     follow x y f = its_follows good f.packet.pair (starts_pair s f.packet f.first f.starts) x y f.next

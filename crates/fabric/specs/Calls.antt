@@ -7,9 +7,8 @@ use Rattle.routing.specs.declared.plan.Plan.{Plan}
 use Rattle.routing.specs.Sources.{enters_switch}
 use Rattle.routing.specs.Turns.{turns}
 use Rattle.routing.specs.Paths.{Routing, Hop, hop, PairOf}
-use Rattle.routing.specs.Plans.{routing_of}
 use Rattle.routing.specs.Walks.{Advances}
-use Rattle.checking.specs.Starts.{Ranged}
+use Rattle.routing.specs.Plans.{OneToEight, routing_of}
 use Rattle.checking.specs.Plans.{level_at, virtual}
 use Rattle.courses.specs.Queues.{Queues, at, push}
 use Rattle.fabric.specs.declared.packet.Packet.{Packet}
@@ -29,6 +28,7 @@ pub record Setup : Type 0 where
   pub lanes : ℕ
   pub depth : ℕ
 
+-- a routing, a path table, a lane count and a depth, put together
 abbrev pub setup : Routing → List ℕ → ℕ → ℕ → Setup
 setup g levels lanes depth = record { routes = g; levels = levels; lanes = lanes; depth = depth }
 
@@ -48,36 +48,40 @@ room s c = s.depth
 abbrev pub Enough : Rack → ℕ → ℕ → Type 0
 Enough r levels queues = (node_count r * node_count r ≤ levels) × (8 * channel_count r ≤ queues)
 
+-- the path table of a setup and its queues have the places needed
 abbrev pub EnoughFor : Setup → Queues Packet → Type 0
 EnoughFor s qs = Enough s.routes.rack (length s.levels) (length qs)
 
 -- a call can start
 abbrev pub Ready : Setup → Queues Packet → Type 0
-Ready s qs = Ranged s.lanes × EnoughFor s qs
+Ready s qs = OneToEight s.lanes × EnoughFor s qs
 
 -- why none can start: the lane count is out of range; else a table is too short
 abbrev pub NotReady : ℕ → Type 0 → FabricFault → Type 0
-NotReady lanes enough Lanes = Ranged lanes → ⊥
-NotReady lanes enough Tables = Ranged lanes × (enough → ⊥)
+NotReady lanes enough Lanes = OneToEight lanes → ⊥
+NotReady lanes enough Tables = OneToEight lanes × (enough → ⊥)
 NotReady lanes enough _ = ⊥
 
--- the same of a plan and so many queues
+-- `Enough` of a plan and a count of queues: its path table is long enough, and there are queues enough
 abbrev pub Fits : {S M : Type 0} → Plan S M → ℕ → Type 0
 Fits plan queues = Enough plan.rack.now (length plan.levels.now) queues
 
+-- `Ready` of a plan and a count of queues: a call can start
 abbrev pub CanStart : {S M : Type 0} → Plan S M → ℕ → Type 0
-CanStart plan queues = Ranged plan.lanes × Fits plan queues
+CanStart plan queues = OneToEight plan.lanes × Fits plan queues
 
+-- `NotReady` of a plan and a count of queues: why no call can start
 abbrev pub CannotStart : {S M : Type 0} → Plan S M → ℕ → FabricFault → Type 0
 CannotStart plan queues f = NotReady plan.lanes (Fits plan queues) f
 
 -- why a fabric is not opened: the depth is out of range; else no call could start
 abbrev pub OpenRefused : ℕ → ℕ → Type 0 → FabricFault → Type 0
-OpenRefused depth lanes enough Lanes = Ranged depth × NotReady lanes enough Lanes
-OpenRefused depth lanes enough Depth = Ranged depth → ⊥
-OpenRefused depth lanes enough Tables = Ranged depth × NotReady lanes enough Tables
+OpenRefused depth lanes enough Lanes = OneToEight depth × NotReady lanes enough Lanes
+OpenRefused depth lanes enough Depth = OneToEight depth → ⊥
+OpenRefused depth lanes enough Tables = OneToEight depth × NotReady lanes enough Tables
 OpenRefused depth lanes enough _ = ⊥
 
+-- `OpenRefused` of a depth, a plan and a count of queues: why no fabric is opened
 abbrev pub CannotOpen : {S M : Type 0} → ℕ → Plan S M → ℕ → FabricFault → Type 0
 CannotOpen depth plan queues f = OpenRefused depth plan.lanes (Fits plan queues) f
 
@@ -99,6 +103,7 @@ waiting_count r qs = sum_by length (take (8 * channel_count r) qs)
 abbrev pub level_for : Setup → Pair → ℕ
 level_for s p = level_at s.routes.rack s.levels p.sender.0 p.receiver.0
 
+-- the pair is two different hosts of the rack
 abbrev pub PairHere : Setup → Pair → Type 0
 PairHere s p = PairOf s.routes.rack p.sender.0 p.receiver.0
 
@@ -169,7 +174,7 @@ pub record CanForward (s : Setup) (qs : Queues Packet) (x : ℕ) (p : Packet) (r
   pub goes : GoesOn s x p h
   pub fits : length (at qs (virtual h)) < room s h.channel
 
--- it comes last there, one hop further on
+-- the first packet of queue x goes on to the queue of the hop, which has room, and comes last there, one hop further on
 pub record Forwards (s : Setup) (before : Queues Packet) (x : ℕ) (h : Hop) (after : Queues Packet) : Type 0 where
   pub packet : Packet
   pub rest : List Packet
@@ -194,7 +199,7 @@ pub record CanTake (s : Setup) (qs : Queues Packet) (x : ℕ) (p : Packet) (rest
   pub first : First s qs x p rest
   pub home : head s.routes.rack (x / 8) ≡ p.pair.receiver.0
 
--- it leaves
+-- the first packet of queue x, which is at its receiver, leaves the queues, and d is what is told of it
 pub record Takes (s : Setup) (before : Queues Packet) (x : ℕ) (d : Delivery) (after : Queues Packet) : Type 0 where
   pub packet : Packet
   pub rest : List Packet

@@ -28,16 +28,18 @@ event (Forward x) (Ok (Forwarded c l)) = forwarded
 event (Take x) (Ok (Taken d)) = taken d
 event _ _ = refused
 
+-- what came of each call of a list, in its order, as far as there are answers
 abbrev pub events : List Call → List Answer → List (Event Delivery)
 events [] as' = []
 events (c ∷ cs) [] = []
 events (c ∷ cs) (a ∷ as') = event c a ∷ events cs as'
 
--- the virtual channels of hop i and of those behind it, n at most, until the path has ended
+-- the virtual channel of a hop, and then the list; nothing where there is no hop
 abbrev pub then_on : Option Hop → List ℕ → List ℕ
 then_on None xs = []
 then_on (Some h) xs = virtual h ∷ xs
 
+-- of the path that begins on channel c and goes to host v at level s: the virtual channels of hop i and of those behind it, n at most, until the path has ended
 abbrev pub hops_on : Routing → ℕ → ℕ → ℕ → ℕ → ℕ → List ℕ
 hops_on g c v s i zero = []
 hops_on g c v s i (suc n) = then_on (hop_at g c v s i) (hops_on g c v s (suc i) n)
@@ -46,6 +48,7 @@ hops_on g c v s i (suc n) = then_on (hop_at g c v s i) (hops_on g c v s (suc i) 
 abbrev pub channel_out : Rack → ℕ → Option ℕ
 channel_out r u = least (λ c. nat_eq (tail r c) u) 0 (channel_count r)
 
+-- the path of a pair that begins on that channel, as the numbers of its virtual channels; nothing where there is no channel
 abbrev pub path_from : Setup → Pair → Option ℕ → List ℕ
 path_from s p None = []
 path_from s p (Some c) = hops_on s.routes c p.receiver.0 (level_for s p) 0 (channel_count s.routes.rack)
@@ -54,6 +57,7 @@ path_from s p (Some c) = hops_on s.routes c p.receiver.0 (level_for s p) 0 (chan
 abbrev pub path : Setup → Pair → List ℕ
 path s p = path_from s p (channel_out s.routes.rack p.sender.0)
 
+-- the path of the pair that a packet is of
 abbrev pub path_of : Setup → Delivery → List ℕ
 path_of s d = path s d.pair
 
@@ -86,6 +90,7 @@ Stirs s qs =
     ((x : ℕ) × (p : Packet) × (rest : List Packet) × (h : Hop) × CanForward s qs x p rest h)
     ⊎ ((x : ℕ) × (p : Packet) × (rest : List Packet) × CanTake s qs x p rest)
 
+-- whether a packet is of sender u and receiver v
 abbrev pub of_pair : ℕ → ℕ → Delivery → Bool
 of_pair u v d = d.pair.sender.0 == u && d.pair.receiver.0 == v
 
@@ -97,6 +102,7 @@ tags u v ds = map (λ d. d.tag) (filter (of_pair u v) ds)
 abbrev pub waiting_tags : Setup → Pair → Queues Packet → List ℕ
 waiting_tags s p qs = map (λ d. d.tag) (waiting (of_pair p.sender.0 p.receiver.0) (path s p) (standing s qs))
 
+-- the tags of the packets of the pair p
 abbrev pub pair_tags : Pair → List Delivery → List ℕ
 pair_tags p ds = tags p.sender.0 p.receiver.0 ds
 

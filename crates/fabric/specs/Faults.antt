@@ -12,6 +12,8 @@ pub record Refusal : Type 0 where
   pub hop : ℕ
   pub walk : Option WalkFault
 
+-- what is told where the fabric refuses: a lane count or a depth that is not 1 to 8, a table too short, a pair that is not two different hosts or whose level is above 15,
+-- no such queue, an empty one, a packet in the wrong place for the call, the fault of a walk, or a full queue
 abbrev pub fabric_refusal : FabricFault → Refusal
 fabric_refusal Lanes = record { number = Some 10; about = None; hop = 0; walk = None }
 fabric_refusal Depth = record { number = Some 10; about = None; hop = 0; walk = None }

@@ -15,7 +15,7 @@ pub enum Call {
 #[derive(Clone, Copy, PartialEq, Eq, Debug)]
 pub enum Done {
     Admitted,
-    // the channel and the lane that the packet moved to: a pair and no `Step`, as the project lays down
+    // the channel and the lane that the packet moved to: a pair, as `forward` answers it
     Forwarded(Channel, Lane),
     Taken(Delivery),
 }

@@ -19,7 +19,7 @@ use workbench::checked::check_text;
 use workbench::dry::{Start, close, open_dry};
 use workbench::plan_file::{PlanFile, plan_in};
 use workbench::rack_file::RackFile;
-use workbench::way::Way;
+use workbench::source::FileSource;
 
 // Why the program stops short, with status 1.
 #[derive(Debug, Drop)]
@@ -47,10 +47,10 @@ impl<T: Drop> From<AllocFailed<T>> for Stop {
     }
 }
 
-// The bytes of a file; or its name and why it cannot be read.
-fn contents(rt: &HostRuntime, path: &str) -> Result<Vec<u8>, Stop> {
-    match fs::read(rt, path) {
-        Ok(bytes) => Ok(bytes),
+// What a file was read or written for; or its name and why it cannot be.
+fn named<T: Drop>(rt: &HostRuntime, path: &str, came: io::Result<T>) -> Result<T, Stop> {
+    match came {
+        Ok(value) => Ok(value),
         Err(error) => Err(Stop::Said(format!(in rt.alloc(); "{path}: {error}")?)),
     }
 }
@@ -62,7 +62,7 @@ fn refusal(heap: Global, refusal: Refusal) -> Result<String, AllocError> {
 
 // Reads a rack file; none, and it is said why, if it is refused.
 fn rack_at(rt: &HostRuntime, path: &str) -> Result<Option<RackFile>, Stop> {
-    let file = contents(rt, path)?;
+    let file = named(rt, path, fs::read(rt, path))?;
     match RackFile::read(rt.alloc(), &file) {
         Ok(rack) => Ok(Some(rack)),
         Err(fault) => {
@@ -79,7 +79,7 @@ fn build(rt: &HostRuntime, task: BuildTask<'_>) -> Result<(), Stop> {
     let built = build_text(rt.alloc(), &rack, task.lanes, task.two_hop)?;
     rt.print(built.text.as_str())?;
     if let (Some(path), Some(bytes)) = (task.out, built.file) {
-        fs::write(rt, path, bytes)?;
+        named(rt, path, fs::write(rt, path, bytes))?;
     }
     Ok(())
 }
@@ -93,7 +93,7 @@ fn check(rt: &HostRuntime, rack: &RackFile, plan: PlanFile<'_>) -> Result<(), St
 // Answers the lines of standard input until one asks to close, or there are no more.
 fn course(
     rt: &HostRuntime,
-    plan: &Plan<'_, Way<'_>, StoredRows<'_>>,
+    plan: &Plan<'_, FileSource<'_>, StoredRows<'_>>,
     fabric: &Fabric,
     queues: &mut [Queue],
 ) -> Result<(), Stop> {
@@ -116,7 +116,7 @@ fn dry(rt: &HostRuntime, rack: &RackFile, file: PlanFile<'_>, depth: u8) -> Resu
     };
     let plan = Plan {
         rack: &rack.rack,
-        source: &rack.way(),
+        source: &rack.source(),
         map: &StoredRows {
             rack: &rack.rack,
             lanes: file.lanes,
@@ -125,8 +125,7 @@ fn dry(rt: &HostRuntime, rack: &RackFile, file: PlanFile<'_>, depth: u8) -> Resu
         lanes: file.lane_count,
     };
     course(rt, &plan, &fabric, &mut queues)?;
-    let reply = close(fabric, &plan, &queues).ok_or(AllocError)?;
-    rt.print(reply)?;
+    rt.print(close(fabric, &plan, &queues))?;
     Ok(())
 }
 
@@ -135,7 +134,7 @@ fn planned(rt: &HostRuntime, rack: &str, plan: &str, depth: Option<u8>) -> Resul
     let Some(rack) = rack_at(rt, rack)? else {
         return Ok(());
     };
-    let bytes = contents(rt, plan)?;
+    let bytes = named(rt, plan, fs::read(rt, plan))?;
     match (plan_in(&rack.rack, &bytes), depth) {
         (Ok(plan), None) => check(rt, &rack, plan),
         (Ok(plan), Some(depth)) => dry(rt, &rack, plan, depth),

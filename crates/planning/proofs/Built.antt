@@ -11,9 +11,9 @@ use Rattle.routing.proofs.Tests.{enters_no}
 use Rattle.std.proofs.lemmas.Option.{same_Some}
 use Rattle.routing.proofs.Hops.{came, hop_more, hop_last, from_first}
 use Rattle.builder.specs.Method.{alone, PathOf, tables}
-use Rattle.builder.specs.Laws.{Rises, EndsKeep0}
-use Rattle.builder.specs.Outcomes.{InRange}
-use Rattle.checking.specs.Plans.{level_at, On, FinePair, AllPairs}
+use Rattle.builder.specs.Laws.{TurnsNumbered, EndsKeep0}
+use Rattle.routing.specs.Plans.{OneToEight}
+use Rattle.checking.specs.Plans.{level_at, On, FinePair, AllFine}
 use Rattle.checking.specs.Plans as plans
 use Rattle.checking.specs.declared.acceptance.Acceptance.{Acceptance}
 use Rattle.checking.specs.declared.fault.CheckFault.{CheckFault}
@@ -52,7 +52,7 @@ module _ (r : Rack) (route : ℕ → ℕ → Option ℕ) (lanes levels : List �
       let n : suc i ≡ i + 1 = omega arith in
       hop_more bare v 0 c i (suc i) (hop b.0.channel 0) d n k b.2 t.1 t.2 ∙ ap (λ m. Some (hop m 0)) (sym (ap (λ (x : Hop). x.channel) t.3))
 
-  module _ (count : ℕ) (range : InRange count) (rises : Rises r route count (tables lanes levels)) (ends : EndsKeep0 r lanes) (u v : ℕ) (pair : PairOf r u v) where
+  module _ (count : ℕ) (range : OneToEight count) (rises : TurnsNumbered r route count (tables lanes levels)) (ends : EndsKeep0 r lanes) (u v : ℕ) (pair : PairOf r u v) where
     abbrev s : ℕ
     s = level_at r levels u v
 
@@ -166,8 +166,8 @@ never f other (inr e) = other (err_same f Memory e)
     err_same : (x y : CheckFault) → ◌≡◌ {A = Result Acceptance CheckFault} (Err x) (Err y) → x ≡ y
     err_same x y e = cc
 
-module _ (r : Rack) (route : ℕ → ℕ → Option ℕ) (lanes levels : List ℕ) (count : ℕ) (range : InRange count) (rises : Rises r route count (tables lanes levels)) (ends : EndsKeep0 r lanes) where
-  pub all_fine : AllPairs (full r route lanes levels) levels count
+module _ (r : Rack) (route : ℕ → ℕ → Option ℕ) (lanes levels : List ℕ) (count : ℕ) (range : OneToEight count) (rises : TurnsNumbered r route count (tables lanes levels)) (ends : EndsKeep0 r lanes) where
+  pub all_fine : AllFine (full r route lanes levels) levels count
   all_fine u v pair = built_fine r route lanes levels count range rises ends u v pair
 
   pub all_rise : plans.Rises (full r route lanes levels) levels

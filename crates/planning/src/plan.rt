@@ -1,4 +1,7 @@
 // Builds a plan over a source, and checks it.
+ghost use Rattle.std.specs.Prelude.{◌≡◌, ◌*◌, drop};
+ghost use Rattle.rack.specs.Racks.{node_count, channel_count};
+ghost use Rattle.routing.specs.Turns.{lane_bytes};
 ghost use Rattle.checking.specs.Answers.{tables_at};
 ghost use Rattle.builder.specs.Method.{tables};
 ghost use Rattle.planning.specs.Plans.{Planned};
@@ -26,7 +29,8 @@ pub fn plan<'x, S: ForwardingSource>(
     ranks: &mut [u16],
     ring: &mut [u16],
 ) -> Result<Acceptance, PlanFault>
-    ensures { Planned rack.now (S.ForwardingSource.route source.now) lane_count (tables lanes.old levels.old) (tables lanes.new levels.new) (tables_at dependencies.old ranks.old ring.old) (tables_at dependencies.new ranks.new ring.new) result }
+    ensures answer { Planned rack.now (S.ForwardingSource.route source.now) lane_count (tables lanes.old levels.old) (tables lanes.new levels.new) (tables_at dependencies.old ranks.old ring.old) (tables_at dependencies.new ranks.new ring.new) result }
+    ensures beyond { (drop (lane_bytes (channel_count rack.now)) lanes.new ≡ drop (lane_bytes (channel_count rack.now)) lanes.old) × (drop (node_count rack.now * node_count rack.now) levels.new ≡ drop (node_count rack.now * node_count rack.now) levels.old) }
 {
     build(heap, rack, source, lane_count, lanes, levels)?;
     let map = StoredRows { rack, lanes };

@@ -11,10 +11,11 @@ port_of v p = record { node = record { 0 = v }; port = record { 0 = p } }
 abbrev pub none : Cable
 none = record { first = port_of 0 0; second = port_of 0 0 }
 
--- node v is a host; a switch
+-- node v is a host
 abbrev pub HostAt : List ℕ → ℕ → Type 0
 HostAt nodes v = slice_index nodes v ≡ 1
 
+-- node v is a switch
 abbrev pub SwitchAt : List ℕ → ℕ → Type 0
 SwitchAt nodes v = slice_index nodes v ≡ 2
 
@@ -44,14 +45,15 @@ FreeEnd cables e = (k : ℕ) → k < length cables → EndsAt (slice_index_or ca
 abbrev pub channels : List Cable → ℕ
 channels cables = 2 * length cables
 
--- cable k has channel 2k from its first end to its second, and 2k + 1 back
+-- the end that channel c leaves: cable k has channel 2k from its first end to its second, and 2k + 1 back
 abbrev pub tail_end : List Cable → ℕ → End
 tail_end cables c = cond (c % 2 == 0) (get_or cables (c / 2) none).first (get_or cables (c / 2) none).second
 
+-- the end that channel c enters, which is the other end of its cable
 abbrev pub head_end : List Cable → ℕ → End
 head_end cables c = cond (c % 2 == 0) (get_or cables (c / 2) none).second (get_or cables (c / 2) none).first
 
--- a port takes one cable: two ends of cables, each the tail of a channel, are at two ports
+-- a port takes one cable: no two channels leave by one port
 abbrev pub Apart : List Cable → Type 0
 Apart cables = (b c : ℕ) → (b < channels cables) × (c < channels cables) × (tail_end cables b ≡ tail_end cables c) → b ≡ c
 

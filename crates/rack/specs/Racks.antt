@@ -6,9 +6,11 @@ use Rattle.rack.specs.declared.fault.RackFault.{RackFault}
 use Rattle.rack.specs.declared.fault.RackFault.TheVariants.{Tables, Memory}
 use Rattle.rack.specs.Network.{channels, tail_end, head_end, HostAt, SwitchAt, KeepsRules}
 
+-- the node table of a rack: 1 a host, 2 a switch
 abbrev pub nodes_of : Rack → List ℕ
 nodes_of r = vec_items r.nodes
 
+-- the cable table of a rack
 abbrev pub cables_of : Rack → List Cable
 cables_of r = vec_items r.cables
 
@@ -20,24 +22,27 @@ node_count r = length (nodes_of r)
 abbrev pub channel_count : Rack → ℕ
 channel_count r = channels (cables_of r)
 
--- the node that channel c leaves, and the port by which it leaves
+-- the node that channel c leaves
 abbrev pub tail : Rack → ℕ → ℕ
 tail r c = (tail_end (cables_of r) c).node.0
 
+-- the port by which channel c leaves
 abbrev pub tail_port : Rack → ℕ → ℕ
 tail_port r c = (tail_end (cables_of r) c).port.0
 
--- the node that channel c enters, and the port by which it enters
+-- the node that channel c enters
 abbrev pub head : Rack → ℕ → ℕ
 head r c = (head_end (cables_of r) c).node.0
 
+-- the port by which channel c enters
 abbrev pub head_port : Rack → ℕ → ℕ
 head_port r c = (head_end (cables_of r) c).port.0
 
--- node v is a host, which sends and receives; a switch, which forwards
+-- node v is a host, which sends and receives
 abbrev pub Host : Rack → ℕ → Type 0
 Host r v = HostAt (nodes_of r) v
 
+-- node v is a switch, which forwards
 abbrev pub Switch : Rack → ℕ → Type 0
 Switch r v = SwitchAt (nodes_of r) v
 

@@ -29,7 +29,7 @@ fn has_port(nodes: &[u8], end: End) -> bool
 }
 
 // Whether the node is a host.
-// Of one shape with `is_switch_at`: each is one question, and its clause has the subject's own word; one for any `Kind` would speak of `code kind`.
+// Of one shape with `is_switch_at`: each is one question, and its clause says `HostAt` or `SwitchAt`; one for any `Kind` would speak of `code kind`.
 pub fn is_host_at(nodes: &[u8], node: Node) -> bool
     ensures { Decides result (HostAt nodes.now node.0) }
 {

@@ -11,7 +11,7 @@ pub fn one_value()
     ensures { OneValue }
 {}
 
-// No two cables of a file share a port.
+// As far as records keep the rules, no two cables share a port.
 pub fn ports_apart()
     ensures { PortsApart }
 {}

@@ -6,10 +6,10 @@ use Rattle.std.specs.Iterator.{Yields, FindsItem, CallableWhileAt}
 use Rattle.std.specs.List.{FoldsTo}
 use Rattle.ranking.specs.Graphs.{Next}
 
-module _ {S Γ : Type 0} (graph : S → Γ) (point from : S → ℕ) (follows : Γ → ℕ → ℕ → Type 0) where
+module _ {S Γ : Type 0} (graph : S → Γ) (point from : S → ℕ) (followed_by : Γ → ℕ → ℕ → Type 0) where
   -- what a call of `next` gives: the least follower that is left
   abbrev Gives : S → Option ℕ → S → Type 0
-  Gives s r t = (graph t ≡ graph s) × (point t ≡ point s) × Next (follows (graph s) (point s)) (from s) r × MatchOption r (from t ≡ from s) (λ y. from t ≡ y + 1)
+  Gives s r t = (graph t ≡ graph s) × (point t ≡ point s) × Next (followed_by (graph s) (point s)) (from s) r × MatchOption r (from t ≡ from s) (λ y. from t ≡ y + 1)
 
   -- P does not hold where test f answers no, which leaves it as it was
   module _ {F : Type 0} {call : Mut F (Bor ℕ × Unit {0}) Bool} (f : F) (P : ℕ → Type 0) (no : (x : ℕ) (q : F) → CalledAt call f x false q → (q ≡ f) × (P x → ⊥)) where
@@ -18,7 +18,7 @@ module _ {S Γ : Type 0} (graph : S → Γ) (point from : S → ℕ) (follows : 
       stays : q ≡ f
       same_graph : graph t ≡ graph s
       same_point : point t ≡ point s
-      over : (x : ℕ) → from s ≤ x → x < from t → P x → follows (graph s) (point s) x → ⊥
+      over : (x : ℕ) → from s ≤ x → x < from t → P x → followed_by (graph s) (point s) x → ⊥
 
     passed : (xs : List ℕ) (s t : S) (q : F) → Yields Gives s xs t → FoldsTo (λ p x q. CalledAt call p x false q) f xs q → Passed s t q
     passed [] s t q y c =
@@ -45,7 +45,7 @@ module _ {S Γ : Type 0} (graph : S → Γ) (point from : S → ℕ) (follows : 
     -- from point y of graph k on
     module _ (k : Γ) (y : ℕ) (s : S) (in_graph : graph s ≡ k) (at_point : point s ≡ y) where
       -- f is asked of followers alone
-      pub asked : ((x : ℕ) → follows k y x → TakesAt call f x) → CallableWhileAt Gives call false s f
+      pub asked : ((x : ℕ) → followed_by k y x → TakesAt call f x) → CallableWhileAt Gives call false s f
       asked may = record {
         at = λ xs t q x u came told e.
             let p = passed xs s t q came told in
@@ -55,7 +55,7 @@ module _ {S Γ : Type 0} (graph : S → Γ) (point from : S → ℕ) (follows : 
       -- and a search finds one of them at which P holds, or P holds of none
       pub sought :
           ((x : ℕ) (q : F) → CalledAt call f x true q → P x) → from s ≡ 0 → (r : Option ℕ) (u : S) → FindsItem Gives call s f r u →
-          MatchOption r ((x : ℕ) → P x → follows k y x → ⊥) (λ x. P x × follows k y x)
+          MatchOption r ((x : ℕ) → P x → followed_by k y x → ⊥) (λ x. P x × followed_by k y x)
       sought told start None u d = λ x h m.
           let p = passed d.0 s d.2.0 d.1 d.2.1 d.3 in
           ⊎_elim

@@ -32,7 +32,7 @@ impl<'a, G: Graph> Followers<'a, G> {
 impl<G: Graph> Iterator for Followers<'_, G> {
     type Item = u16;
 
-    ghost next_gives = { λ s r t. (t.graph.now ≡ s.graph.now) × (t.point ≡ s.point) × Next (G.follows s.graph.now s.point) s.from r × MatchOption r (t.from ≡ s.from) (λ y. t.from ≡ y + 1) };
+    ghost next_gives = { λ s r t. (t.graph.now ≡ s.graph.now) × (t.point ≡ s.point) × Next (G.followed_by s.graph.now s.point) s.from r × MatchOption r (t.from ≡ s.from) (λ y. t.from ≡ y + 1) };
 
     ghost remaining = { λ s. at_most (G.size s.graph.now - s.from) };
 
@@ -50,7 +50,7 @@ pub struct Reversed<'a, G>(pub &'a G);
 impl<G: Graph> Graph for Reversed<'_, G> {
     ghost size = { λ g. G.size g.0.now };
 
-    ghost follows = { λ g x y. G.follows g.0.now y x };
+    ghost followed_by = { λ g x y. G.followed_by g.0.now y x };
 
     ghost within = { λ g x y h. let w = G.within g.0.now y x h in (w.1, w.0) };
 

@@ -21,10 +21,10 @@ pub use graphs::Graph;
 // (points + dependencies) x (greatest rank + 1) at most. Where there is a ring, the points that no ring leads to are
 // ranked so, one more round ranks none, and the walk back asks at most once for the forerunners of each point.
 pub fn rank<G: Graph>(graph: &G, ranks: &mut [u16], ring: &mut [u16]) -> Result<u16, RankFault>
-    ensures answer { Answered (G.follows graph.now) (G.size graph.now) ranks.old ranks.new ring.old ring.new result }
+    ensures answer { Answered (G.followed_by graph.now) (G.size graph.now) ranks.old ranks.new ring.old ring.new result }
     ensures refused { result ≡ Err Tables ↔ Short (G.size graph.now) ranks.old ring.old }
-    ensures ranked { Room (G.size graph.now) ranks.old ring.old → (is_ok result ≡ true ↔ NoRing (G.follows graph.now)) }
-    ensures ranks_iff_no_ring { Room (G.size graph.now) ranks.old ring.old → (HaveRanks (G.follows graph.now) (G.size graph.now) ↔ NoRing (G.follows graph.now)) }
+    ensures ranked { Room (G.size graph.now) ranks.old ring.old → (is_ok result ≡ true ↔ NoRing (G.followed_by graph.now)) }
+    ensures ranks_iff_no_ring { Room (G.size graph.now) ranks.old ring.old → (HaveRanks (G.followed_by graph.now) (G.size graph.now) ↔ NoRing (G.followed_by graph.now)) }
 {
     let n = graph.points() as usize;
     if ranks.len() < n || ring.len() < n {
@@ -37,7 +37,7 @@ pub fn rank<G: Graph>(graph: &G, ranks: &mut [u16], ring: &mut [u16]) -> Result<
 fn rank_points<G: Graph>(graph: &G, ranks: &mut [u16], ring: &mut [u16]) -> Result<u16, RankFault>
     requires ranks_fit { length ranks.old ≡ G.size graph.now }
     requires ring_fits { length ring.old ≡ G.size graph.now }
-    ensures { Answered (G.follows graph.now) (G.size graph.now) ranks.old ranks.new ring.old ring.new result }
+    ensures { Answered (G.followed_by graph.now) (G.size graph.now) ranks.old ranks.new ring.old ring.new result }
 {
     ranks.fill(0);
     // no `map_err`: the error is made by a call that changes the ring

@@ -11,7 +11,7 @@ use crate::rounds::Stall;
 fn before<G: Graph>(graph: &G, ranks: &[u16], y: u16, top: u16) -> Option<u16>
     requires fits { length ranks.now ≡ G.size graph.now }
     requires inside { y < G.size graph.now }
-    ensures { MatchOption result ((x : ℕ) → top ≤ slice_index ranks.now x → G.follows graph.now x y → ⊥) (λ x. (top ≤ slice_index ranks.now x) × G.follows graph.now x y) }
+    ensures { MatchOption result ((x : ℕ) → top ≤ slice_index ranks.now x → G.followed_by graph.now x y → ⊥) (λ x. (top ≤ slice_index ranks.now x) × G.followed_by graph.now x y) }
 {
     let back = Reversed(graph);
     Followers::of(&back, y).find(|x| ranks[usize::from(*x)] >= top)
@@ -38,8 +38,8 @@ impl Span {
 // Walks back from a point of the stall, and marks each point on the way, until one comes again.
 fn walk<G: Graph>(graph: &G, ranks: &mut [u16], stall: Stall) -> Span
     requires fits { length ranks.old ≡ G.size graph.now }
-    requires stuck { Stuck (G.follows graph.now) (G.size graph.now) stall.top ranks.old }
-    ensures { Closed (G.follows graph.now) (G.size graph.now) result.lo result.hi ranks.new }
+    requires stuck { Stuck (G.followed_by graph.now) (G.size graph.now) stall.top ranks.old }
+    ensures { Closed (G.followed_by graph.now) (G.size graph.now) result.lo result.hi ranks.new }
 {
     let top = stall.top;
     let Some(first) = ranks.iter().position(|&rank| rank == top) else {
@@ -80,8 +80,8 @@ fn gather(ranks: &[u16], span: Span, ring: &mut [u16])
 pub fn show<G: Graph>(graph: &G, ranks: &mut [u16], stall: Stall, ring: &mut [u16]) -> u16
     requires ranks_fit { length ranks.old ≡ G.size graph.now }
     requires ring_fits { length ring.old ≡ G.size graph.now }
-    requires stuck { Stuck (G.follows graph.now) (G.size graph.now) stall.top ranks.old }
-    ensures { Ringed (G.follows graph.now) (G.size graph.now) result ranks.old ranks.new ring.old ring.new }
+    requires stuck { Stuck (G.followed_by graph.now) (G.size graph.now) stall.top ranks.old }
+    ensures { Ringed (G.followed_by graph.now) (G.size graph.now) result ranks.old ranks.new ring.old ring.new }
 {
     let span = walk(graph, ranks, stall);
     gather(ranks, span, ring);

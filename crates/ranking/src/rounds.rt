@@ -11,7 +11,7 @@ fn raise<G: Graph>(graph: &G, ranks: &mut [u16], x: u16, r: u16)
     requires fits { length ranks.old ≡ G.size graph.now }
     requires inside { x < G.size graph.now }
     requires small { r < G.size graph.now }
-    ensures { Raised (G.follows graph.now) x (r + 1) ranks.old ranks.new }
+    ensures { Raised (G.followed_by graph.now) x (r + 1) ranks.old ranks.new }
 {
     for y in Followers::of(graph, x) {
         ranks[y as usize] = r + 1;
@@ -22,8 +22,8 @@ fn raise<G: Graph>(graph: &G, ranks: &mut [u16], x: u16, r: u16)
 fn round<G: Graph>(graph: &G, ranks: &mut [u16], r: u16)
     requires fits { length ranks.old ≡ G.size graph.now }
     requires small { r < G.size graph.now }
-    requires level { Level (G.follows graph.now) (G.size graph.now) r ranks.old }
-    ensures { Turned (G.follows graph.now) (G.size graph.now) r ranks.old ranks.new }
+    requires level { Level (G.followed_by graph.now) (G.size graph.now) r ranks.old }
+    ensures { Turned (G.followed_by graph.now) (G.size graph.now) r ranks.old ranks.new }
 {
     // By number, since `raise` writes to the ranks meanwhile.
     for x in 0..graph.points() {
@@ -43,8 +43,8 @@ pub struct Stall {
 pub fn settle<G: Graph>(graph: &G, ranks: &mut [u16]) -> Result<u16, Stall>
     requires fits { length ranks.old ≡ G.size graph.now }
     requires zeros { EachIndex ranks.old (λ y. slice_index ranks.old y ≡ 0) }
-    ensures ranked { IfOk result (λ top. Ranked (G.follows graph.now) (G.size graph.now) top ranks.old ranks.new) }
-    ensures stuck { IfErr result (λ stall. Stuck (G.follows graph.now) (G.size graph.now) stall.top ranks.new) }
+    ensures ranked { IfOk result (λ top. Ranked (G.followed_by graph.now) (G.size graph.now) top ranks.old ranks.new) }
+    ensures stuck { IfErr result (λ stall. Stuck (G.followed_by graph.now) (G.size graph.now) stall.top ranks.new) }
 {
     for r in 0..graph.points() {
         round(graph, ranks, r);

@@ -24,7 +24,7 @@ impl Edges<'_> {
 impl Graph for Edges<'_> {
     ghost size = { λ g. g.points };
 
-    ghost follows = { λ g x y. (x < g.points) × (y < g.points) × Contains g.edges.now (x, y) };
+    ghost followed_by = { λ g x y. (x < g.points) × (y < g.points) × Contains g.edges.now (x, y) };
 
     ghost within = { λ g x y h. (h.0, h.1) };
 

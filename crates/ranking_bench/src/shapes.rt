@@ -26,7 +26,7 @@ pub struct Grid(pub Points);
 impl Graph for Grid {
     ghost size = { λ g. g.0.count };
 
-    ghost follows = { λ g x y. (x < g.0.count) × (y < g.0.count) × (((y ≡ x + 1) × (0 < y % 32)) ⊎ (y ≡ x + 32)) };
+    ghost followed_by = { λ g x y. (x < g.0.count) × (y < g.0.count) × (((y ≡ x + 1) × (0 < y % 32)) ⊎ (y ≡ x + 32)) };
 
     ghost within = { λ g x y h. (h.0, h.1) };
 
@@ -67,7 +67,7 @@ pub struct Chain(pub Points);
 impl Graph for Chain {
     ghost size = { λ g. g.0.count };
 
-    ghost follows = { λ g x y. (y < g.0.count) × (y ≡ x + 1) };
+    ghost followed_by = { λ g x y. (y < g.0.count) × (y ≡ x + 1) };
 
     ghost within = { Prim.search rules };
 
@@ -94,7 +94,7 @@ pub struct Ring(pub Points);
 impl Graph for Ring {
     ghost size = { λ g. g.0.count };
 
-    ghost follows = { λ g x y. (x < g.0.count) × (y < g.0.count) × ((y ≡ x + 1) ⊎ ((x + 1 ≡ g.0.count) × (y ≡ 0))) };
+    ghost followed_by = { λ g x y. (x < g.0.count) × (y < g.0.count) × ((y ≡ x + 1) ⊎ ((x + 1 ≡ g.0.count) × (y ≡ 0))) };
 
     ghost within = { λ g x y h. (h.0, h.1) };
 

@@ -28,7 +28,7 @@ nothing = record { switch = record { 0 = 0 }; host = record { 0 = 0 }; port = re
 abbrev pub Names : Entry → ℕ → ℕ → Type 0
 Names e w v = (e.switch.0 ≡ w) × (e.host.0 ≡ v)
 
--- an entry names a switch, a host, a port of the switch that has a cable, and a pair not given before
+-- an entry names a switch, a host and a port of the switch that has a cable, and no entry before is for this switch and host
 abbrev pub Entered : Described → Entry → Type 0
 Entered net e =
     SwitchAt net.nodes e.switch.0 × HostAt net.nodes e.host.0
@@ -59,7 +59,7 @@ abbrev pub Kept : List Asks → Type 0
 Kept [] = Unit {0}
 Kept (d ∷ ds) = d.holds × Kept ds
 
--- r is the first rule that is not
+-- r is the first rule that is not kept
 abbrev pub Breaks : List Asks → Rule → Type 0
 Breaks [] r = ⊥
 Breaks (d ∷ ds) r = ((d.rule ≡ r) × (d.holds → ⊥)) ⊎ (d.holds × Breaks ds r)
@@ -94,6 +94,7 @@ pub record Shown (net : Described) (counts : Counts) (nodes : List ℕ) (cables 
   pub node : (k : ℕ) → slice_index nodes k ≡ slice_index net.nodes k
   pub cable : (k : ℕ) → slice_index_or cables k none ≡ slice_index_or net.cables k none
   pub hop : (w v : ℕ) → v < length net.nodes → Forwarded net w v (slice_index forwarding (length net.nodes * w + v))
+  -- without entries every forwarding place is 0: where there are no nodes, `hop` says nothing
   pub blank : length net.entries ≡ 0 → (k : ℕ) → slice_index forwarding k ≡ 0
 
 -- what adding a record answers: the next counts, with tables that show the record too, or the first rule that it breaks
@@ -105,7 +106,7 @@ Judged limits net said r nodes cables forwarding =
 abbrev pub Alone : Described → ℕ → Type 0
 Alone net v = Lonely net.nodes net.cables v
 
--- what reading the file answers, with what the tables hold then
+-- what reading the file into tables that are long enough answers, and, where it is accepted, what they hold
 abbrev pub Answers : Limits → List ℕ → Result Counts FileFault → List ℕ → List Cable → List ℕ → Type 0
 Answers limits f (Ok counts) nodes cables forwarding =
     (length f % 8 ≡ 0) × Fine limits f (length f / 8) × ((v : ℕ) → Alone (described f (length f / 8)) v → ⊥) × Shown (described f (length f / 8)) counts nodes cables forwarding

@@ -8,7 +8,7 @@ use Rattle.routing.specs.declared.fault.WalkFault.TheVariants.{NoPair, Lane, Mem
 use Rattle.routing.specs.Paths.{Routing, PairOf, OnPath, Delivered}
 use Rattle.routing.specs.Walks.{WalkStops}
 use Rattle.routing.proofs.Determined.{stopped_undelivered}
-use Rattle.checking.specs.Plans.{level_at, FinePair, AllPairs}
+use Rattle.checking.specs.Plans.{level_at, FinePair, AllFine}
 
 module _ (g : Routing) (levels : List ℕ) (lanes : ℕ) (p : Pair) (s : ℕ) (is : s ≡ level_at g.rack levels p.sender.0 p.receiver.0) where
   abbrev u : ℕ
@@ -25,9 +25,9 @@ module _ (g : Routing) (levels : List ℕ) (lanes : ℕ) (p : Pair) (s : ℕ) (i
     never_stops : (room : ℕ) (f : WalkFault) → channel_count g.rack ≤ room → WalkStops g lanes p s room f → ⊥
     never_stops room (NoPair q) l h = h.1 pair
     never_stops room (Lane q k) l h = let x = h.1 in omega (arith, fine.low k x.0 (subst (λ n. OnPath g u v n k x.0) is x.1), x.2)
-    never_stops room Memory l h = omega arith
+    never_stops room Memory l h = omega (arith, h.1)
     never_stops room f l h = stopped_undelivered g lanes p s room f h tt arrives
 
-  module _ (pair : PairOf g.rack u v) (all : ∥ AllPairs g levels lanes ∥₁) where
+  module _ (pair : PairOf g.rack u v) (all : ∥ AllFine g levels lanes ∥₁) where
     pub no_fault : (room : ℕ) (f : WalkFault) → channel_count g.rack ≤ room → WalkStops g lanes p s room f → ⊥
     no_fault room f l h = ∥∥₁_elim all (λ x y. absurd x) (λ fine. never_stops pair (fine u v pair) room f l h)

@@ -13,7 +13,7 @@ use Rattle.ranking.specs.Graphs.{Ranked}
 use Rattle.ranking.proofs.Chains.{one_rank, rank_same}
 use Rattle.routing.specs.Paths.{Routing, Hop, PairOf, OnPath, EndsAtHop}
 use Rattle.routing.proofs.Hops.{hop_last, from_first}
-use Rattle.checking.specs.Plans.{level_at, Follows}
+use Rattle.checking.specs.Plans.{level_at, IsFollowedBy}
 use Rattle.builder.specs.declared.fault.BuildFault.{BuildFault}
 use Rattle.builder.specs.Method.{Tables, tables, blank}
 use Rattle.builder.specs.Outcomes.{FirstLacks}
@@ -65,7 +65,7 @@ planned_to : {r q : Rack} → Same r q → (route : ℕ → ℕ → Option ℕ) 
 planned_to {r = r} {q = q} e route lanes levels u v i h on =
     subst (λ t. OnPath (planned q route lanes) u v t i h) (same_level e levels u v) (on_to e route (same_lanes e lanes) u v (level_at r levels u v) i h on)
 
-follows_to : {r q : Rack} → Same r q → (route : ℕ → ℕ → Option ℕ) (lanes levels : List ℕ) (x y : ℕ) → Follows (planned r route lanes) levels x y → Follows (planned q route lanes) levels x y
+follows_to : {r q : Rack} → Same r q → (route : ℕ → ℕ → Option ℕ) (lanes levels : List ℕ) (x y : ℕ) → IsFollowedBy (planned r route lanes) levels x y → IsFollowedBy (planned q route lanes) levels x y
 follows_to e route lanes levels x y f =
     record {
       sender = f.sender;
@@ -121,8 +121,8 @@ one_plan : {r q : Rack} → Same r q → (route : ℕ → ℕ → Option ℕ) (a
 one_plan {r = r} {q = q} e route a b x y =
     let t : tables y.lanes y.levels ≡ tables x.lanes x.levels = one_all q route lane_count (node_count q) (blank q) (tables y.lanes y.levels) (tables x.lanes x.levels) y.built (built_to e route lane_count (tables x.lanes x.levels) x.built) in
     let n : 8 * channel_count r ≡ 8 * channel_count q = ap (λ (cs : List Cable). 8 * channels cs) e.cables in
-    let ranked : Ranked (Follows (planned r route x.lanes) x.levels) (8 * channel_count q) x.greatest x.ranks x.ranks = subst (λ m. Ranked (Follows (planned r route x.lanes) x.levels) m x.greatest x.ranks x.ranks) n x.ranked in
-    let its : Ranked (Follows (planned q route x.lanes) x.levels) (8 * channel_count q) y.greatest y.ranks y.ranks = subst (λ (z : Tables). Ranked (Follows (planned q route z.lanes) z.levels) (8 * channel_count q) y.greatest y.ranks y.ranks) t y.ranked in
+    let ranked : Ranked (IsFollowedBy (planned r route x.lanes) x.levels) (8 * channel_count q) x.greatest x.ranks x.ranks = subst (λ m. Ranked (IsFollowedBy (planned r route x.lanes) x.levels) m x.greatest x.ranks x.ranks) n x.ranked in
+    let its : Ranked (IsFollowedBy (planned q route x.lanes) x.levels) (8 * channel_count q) y.greatest y.ranks y.ranks = subst (λ (z : Tables). Ranked (IsFollowedBy (planned q route z.lanes) z.levels) (8 * channel_count q) y.greatest y.ranks y.ranks) t y.ranked in
     let top : x.greatest ≡ y.greatest = one_greatest (follows_to e route x.lanes x.levels) (follows_to (turned e) route x.lanes x.levels) ranked its in
     let lines : x.lines ≡ y.lines = one_lines e route x.lanes x.levels x.lines y.lines x.printed (subst (λ (z : Tables). AllPrinted (planned q route z.lanes) z.levels y.lines) t y.printed) in
     x.whole ∙ (λ i. accepted_line (top i) ++ lines i) ∙ sym y.whole

@@ -13,7 +13,7 @@ use Rattle.reading.specs.Rules.{Answers}
 use Rattle.routing.specs.Turns.{lane_bytes}
 use Rattle.ranking.specs.Graphs.{Ranked}
 use Rattle.checking.specs.declared.fault.CheckFault.TheVariants.{Tables, Memory}
-use Rattle.checking.specs.Plans.{Follows, AllPairs}
+use Rattle.checking.specs.Plans.{IsFollowedBy, AllFine}
 use Rattle.checking.specs.Starts.{Long}
 use Rattle.checking.specs.Answers.{TablesAt}
 use Rattle.builder.specs.declared.fault.BuildFault.TheVariants.{Lanes as NoLanes, Tables as Short, Walk as NoPath, Lane as NoLane, Level as NoLevel, Memory as Unbuilt}
@@ -49,7 +49,7 @@ whole {r = r} {now = now} fit = λ i. tables (take_all (lane_bytes (channel_coun
 -- the text of tables that were built and accepted
 pub planned_text :
     {r : Rack} {route : ℕ → ℕ → Option ℕ} {now : BuiltTables} {greatest : ℕ} {was ranks text : List ℕ} → Fitting r now → Built r route lane_count (needed r now) →
-    AllPairs (planned r route now.lanes) now.levels lane_count → Ranked (Follows (planned r route now.lanes) now.levels) (8 * channel_count r) greatest was ranks →
+    AllFine (planned r route now.lanes) now.levels lane_count → Ranked (IsFollowedBy (planned r route now.lanes) now.levels) (8 * channel_count r) greatest was ranks →
     Adds (AllPrinted (planned r route now.lanes) now.levels) (accepted_line greatest) text → PlannedText r route text
 planned_text {r = r} {route = route} {now = now} {greatest = greatest} {ranks = ranks} fit built fine ranked p =
     record {
@@ -89,11 +89,11 @@ lack_weaker r P R f to (inr b) = inr (b.0, b.1, to b.0 b.2, b.3, b.4)
 
 -- what was read into tables of the lengths needed, and the rack made of them
 pub reads :
-    (file : List ℕ) (limits : Limits) (counts : Counts) (nodes : List ℕ) (cables : List Cable) (forwarding : List ℕ) (r : Rack) →
-    LetsIn limits → (counts.nodes ≤ 128) × (counts.cables ≤ 256) → length forwarding ≡ 16384 →
+    (most_nodes most_cables : ℕ) (file : List ℕ) (limits : Limits) (counts : Counts) (nodes : List ℕ) (cables : List Cable) (forwarding : List ℕ) (r : Rack) →
+    LetsIn most_nodes most_cables limits → (counts.nodes ≤ 128) × (counts.cables ≤ 256) → length forwarding ≡ 16384 →
     Answers limits file (Ok counts) (take 128 nodes) (take 256 cables) (take 16384 forwarding) → nodes_of r ≡ take counts.nodes nodes → cables_of r ≡ take counts.cables cables →
-    Reads file r counts.entries forwarding
-reads file limits counts nodes cables forwarding r lets few long answers n c =
+    Reads most_nodes most_cables file r counts.entries forwarding
+reads most_nodes most_cables file limits counts nodes cables forwarding r lets few long answers n c =
     let same : take 16384 forwarding ≡ forwarding = take_all 16384 forwarding (omega arith) in
     record {
       limits = limits;
@@ -108,6 +108,6 @@ reads file limits counts nodes cables forwarding r lets few long answers n c =
     }
 
 -- why there is no text, where the file was read
-pub untold : (file : List ℕ) (r : Rack) (entries : ℕ) (forwarding : List ℕ) (f : Refusal) → Reads file r entries forwarding → SomeLack r (Forwards r entries forwarding) f → Untold file f
+pub untold : (file : List ℕ) (r : Rack) (entries : ℕ) (forwarding : List ℕ) (f : Refusal) → Reads 12 16 file r entries forwarding → SomeLack r (Forwards r entries forwarding) f → Untold file f
 untold file r entries forwarding f read (inl n) = inl n
 untold file r entries forwarding f read (inr b) = inr (subst (Refused file) (sym b.3) (r, b.0, (entries, forwarding, read, b.2), b.4))

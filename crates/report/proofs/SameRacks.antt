@@ -175,7 +175,7 @@ module _ {r q : Rack} (e : Same r q) (route : ℕ → ℕ → Option ℕ) (p : P
       let h = x.3 in
       let enters = over e (λ ns cs. (entering ns cs h.0.channel ≡ false) × ((head_end cs h.0.channel).node.0 ≡ v → ⊥)) (h.2, h.3) in
       (x.0, pair_to e u v x.1, below_to k x.2, (h.0, reaches_to k h.0 h.1, enters.0, enters.1))
-  walk_to NoRoom x = absurd (omega arith)
+  walk_to NoRoom x = absurd (omega (arith, x.1))
 
 -- and so is what lacks
 module _ {r q : Rack} (e : Same r q) (route : ℕ → ℕ → Option ℕ) (count : ℕ) where

@@ -22,14 +22,14 @@ use Rattle.routing.proofs.Tests.{entered}
 use Rattle.report.specs.Reports.{LetsIn, Reads, Forwards, Gives}
 use Rattle.report.proofs.SameRacks.{Same, turned, over, entering, same_count}
 
--- the console's limits are one value
-pub same_limits : (a b : Limits) → LetsIn a → LetsIn b → a ≡ b
+-- limits are one value by what they let in
+pub same_limits : {most_nodes most_cables : ℕ} (a b : Limits) → LetsIn most_nodes most_cables a → LetsIn most_nodes most_cables b → a ≡ b
 same_limits a b x y =
     let n : a.nodes ≡ b.nodes = x.0 ∙ sym y.0 in
     let c : a.cables ≡ b.cables = x.1 ∙ sym y.1 in
     λ i. record { nodes = n i; cables = c i; few = is_prop→PathP (λ j. (n j ≤ 128) × (c j ≤ 256)) (λ j. hlevel le_prop) a.few b.few i }
 
-module _ {file : List ℕ} {r q : Rack} {m n : ℕ} {x y : List ℕ} (a : Reads file r m x) (b : Reads file q n y) where
+module _ {most_nodes most_cables : ℕ} {file : List ℕ} {r q : Rack} {m n : ℕ} {x y : List ℕ} (a : Reads most_nodes most_cables file r m x) (b : Reads most_nodes most_cables file q n y) where
   again : Answers a.limits file (Ok b.counts) b.nodes b.cables y
   again = subst (λ (l : Limits). Answers l file (Ok b.counts) b.nodes b.cables y) (same_limits b.limits a.limits b.lets_in a.lets_in) b.answers
 

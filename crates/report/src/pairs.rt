@@ -2,7 +2,7 @@
 ghost use Rattle.std.specs.Prelude.{◌≡◌, ◌≤◌, vec_capacity, string_bytes, MatchResult};
 ghost use Rattle.rack.specs.Racks.{channel_count};
 ghost use Rattle.routing.specs.Paths.{PairOf};
-ghost use Rattle.checking.specs.Plans.{AllPairs};
+ghost use Rattle.checking.specs.Plans.{AllFine};
 ghost use Rattle.routing.specs.Plans.{routing_of};
 ghost use Rattle.report.specs.Lines.{Adds, LineOf, AllPrinted};
 
@@ -25,7 +25,7 @@ struct Printer<'a, 'b, S: ForwardingSource, M: LaneMap> {
     path: Vec<Step>,
     // what is printed so far
     out: String,
-    ghost fine: { ∥ AllPairs (routing_of S.route M.lanes plan.now) plan.now.levels.now plan.now.lanes ∥₁ },
+    ghost fine: { ∥ AllFine (routing_of S.route M.lanes plan.now) plan.now.levels.now plan.now.lanes ∥₁ },
     ghost room: { channel_count plan.now.rack.now ≤ vec_capacity path },
 }
 
@@ -69,7 +69,7 @@ pub(crate) fn all_lines<S: ForwardingSource, M: LaneMap>(
     plan: &Plan<'_, S, M>,
     out: String,
 ) -> Result<String, Refusal>
-    requires { AllPairs (routing_of S.route M.lanes plan.now) plan.now.levels.now plan.now.lanes }
+    requires { AllFine (routing_of S.route M.lanes plan.now) plan.now.levels.now plan.now.lanes }
     ensures { MatchResult result (λ s. Adds (AllPrinted (routing_of S.route M.lanes plan.now) plan.now.levels.now) (string_bytes out) (string_bytes s)) (λ f. f ≡ Refusal.Memory) }
 {
     let path = Vec::with_capacity(heap, plan.rack.channel_count())?;

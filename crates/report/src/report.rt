@@ -1,6 +1,6 @@
 // Reads, builds, checks, and says what happened.
 ghost use Rattle.std.specs.Prelude.{◌≡◌, IfOk, string_bytes, MatchResult};
-ghost use Rattle.checking.specs.Plans.{AllPairs};
+ghost use Rattle.checking.specs.Plans.{AllFine};
 ghost use Rattle.planning.specs.Plans.{planned};
 ghost use Rattle.report.specs.Lines.{Adds, AllPrinted};
 ghost use Rattle.report.specs.Text.{accepted_line};
@@ -42,7 +42,7 @@ fn plan_lines<'x, S: ForwardingSource>(
     levels: &'x [u8],
     greatest: u16,
 ) -> Result<String, Refusal>
-    requires { AllPairs (planned rack.now (S.route source.now) lanes.now) levels.now lane_count }
+    requires { AllFine (planned rack.now (S.route source.now) lanes.now) levels.now lane_count }
     ensures { MatchResult result (λ s. Adds (AllPrinted (planned rack.now (S.route source.now) lanes.now) levels.now) (accepted_line greatest) (string_bytes s)) (λ f. f ≡ Refusal.Memory) }
 {
     let map = StoredRows { rack, lanes };

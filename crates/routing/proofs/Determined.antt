@@ -65,8 +65,8 @@ module _ (g : Routing) (lanes : ℕ) (p : Pair) (s : ℕ) where
     stops : (j : ℕ) (k : Hop) → m < j → j < C → Reaches g lanes u v s j k → ⊥
 
   -- a hop is named behind one that is not the last of the path
-  follows : (c m j : ℕ) (h k : Hop) → hop_at g c v s m ≡ Some h → m < j → hop_at g c v s j ≡ Some k → (d : ℕ) × (g.next h.channel v ≡ Some d) × (turns g.rack h.channel d ≡ true)
-  follows c m j h k e l f =
+  followed_by : (c m j : ℕ) (h k : Hop) → hop_at g c v s m ≡ Some h → m < j → hop_at g c v s j ≡ Some k → (d : ℕ) × (g.next h.channel v ≡ Some d) × (turns g.rack h.channel d ≡ true)
+  followed_by c m j h k e l f =
       let some = something (hop_at g c v s (suc m)) (λ none. none-some k (sym (gone g v s c (suc m) j (omega arith) none) ∙ f)) in
       let b = came g v s (hop_at g c v s m) some.0 some.1 in
       let same : b.0 ≡ h = same_Some _ _ (sym b.1 ∙ e) in
@@ -87,7 +87,7 @@ module _ (g : Routing) (lanes : ℕ) (p : Pair) (s : ℕ) where
 
   -- a hop behind hop m names its channel
   next_named : (m j : ℕ) (h k : Hop) → PairOf g.rack u v → OnPath g u v s m h → m < j → OnPath g u v s j k → (d : ℕ) × (g.next h.channel v ≡ Some d) × (turns g.rack h.channel d ≡ true)
-  next_named m j h k pair on l r = follows on.0 m j h k on.2 l (from_first g u v s on.0 j k pair.0 on.1 r)
+  next_named m j h k pair on l r = followed_by on.0 m j h k on.2 l (from_first g u v s on.0 j k pair.0 on.1 r)
 
   -- where nothing comes behind a hop that does not end at the receiver, the packets never arrive
   undelivered :
@@ -280,7 +280,7 @@ with_room g lanes p s room (NoChannel q k) l h = h
 with_room g lanes p s room (Elsewhere q k) l h = h
 with_room g lanes p s room (Lane q k) l h = h
 with_room g lanes p s room (OtherHost q k) l h = h
-with_room g lanes p s room Memory l h = absurd (omega arith)
+with_room g lanes p s room Memory l h = absurd (omega (arith, h.1))
 
 memory_or_not : (f : WalkFault) → (f ≡ Memory) ⊎ (f ≡ Memory → ⊥)
 memory_or_not (NoPair q) = inr (λ e. let z : ◌≡◌ {A = ℕ} 0 1 = cc in omega arith)

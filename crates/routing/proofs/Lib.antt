@@ -3,7 +3,6 @@ pub mod Sourced
 pub mod Lanes
 pub mod Hops
 pub mod Walking
-mod Counts
 mod Missing
 mod Columns
 pub mod PairOrder

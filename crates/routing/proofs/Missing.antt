@@ -2,7 +2,7 @@
 use Rattle.std.proofs.Common.{◌≡◌, ℕ, ◌<◌, true, eqb, List, refl, arith}
 use Rattle.std.proofs.lemmas.Bool.{eqb-true, eq-eqb, ne_eqb}
 use Rattle.routing.specs.Ways.{far}
-use Rattle.routing.proofs.Counts.{count, count_le, count_less}
+use Rattle.ranking.proofs.Counts.{count, count_le, count_less}
 
 -- how many nodes have no way in the column of v
 unfoldable pub missing : ℕ → ℕ → List ℕ → ℕ

@@ -1,7 +1,7 @@
 -- More numbers than there are values: one comes twice. Assumes nothing.
 use Rattle.std.proofs.Common.{◌≡◌, ℕ, zero, suc, ◌<◌, ◌≤◌, Bool, true, false, eqb, ◌||◌, ◌⊎◌, refl, inl, inr, ⊎_elim, arith, eq-eqb, ne_eqb}
 use Rattle.std.proofs.lemmas.Bool.{cases_eq, or_right}
-use Rattle.routing.proofs.Counts.{count, count_le, count_less}
+use Rattle.ranking.proofs.Counts.{count, count_le, count_less}
 
 -- v is at i for some i below m
 abbrev hit : (ℕ → ℕ) → ℕ → ℕ → Bool

@@ -10,6 +10,7 @@ pub record Hop : Type 0 where
   pub channel : ℕ
   pub lane : ℕ
 
+-- lane q of channel c, as a hop
 abbrev pub hop : ℕ → ℕ → Hop
 hop c q = record { channel = c; lane = q }
 
@@ -17,12 +18,13 @@ hop c q = record { channel = c; lane = q }
 abbrev pub PairOf : Rack → ℕ → ℕ → Type 0
 PairOf r u v = Host r u × Host r v × (u ≢ v)
 
--- what decides a path: the rack, what the source names and the lanes of the map at the pair's level
+-- what decides a path: the rack; `next c v` is what the source names behind channel c towards host v; `lane c d s` is the map's lane from channel c to channel d at level s
 pub record Routing : Type 0 where
   pub rack : Rack
   pub next : ℕ → ℕ → Option ℕ
   pub lane : ℕ → ℕ → ℕ → ℕ
 
+-- a rack, what a source names and the lanes of a map, put together
 abbrev pub routing : Rack → (ℕ → ℕ → Option ℕ) → (ℕ → ℕ → ℕ → ℕ) → Routing
 routing r next lane = record { rack = r; next = next; lane = lane }
 
@@ -31,6 +33,7 @@ abbrev pub named : Routing → ℕ → ℕ → ℕ → Option ℕ → Option Hop
 named g v s c None = None
 named g v s c (Some d) = cond (turns g.rack c d) (Some (hop d (g.lane c d s))) None
 
+-- the hop behind a hop, towards host v at level s: where that hop enters a switch, the one that is named behind its channel; else none
 abbrev pub behind : Routing → ℕ → ℕ → Option Hop → Option Hop
 behind g v s None = None
 behind g v s (Some h) = cond (enters_switch g.rack h.channel) (named g v s h.channel (g.next h.channel v)) None

@@ -38,7 +38,7 @@ abbrev pub least : (ℕ → Bool) → ℕ → ℕ → Option ℕ
 least p k zero = None
 least p k (suc n) = cond (p k) (Some k) (least p (k + 1) n)
 
--- the downhill source answers the lowest-numbered channel out of the switch whose head is one nearer; none without a way
+-- the downhill source answers, behind channel c towards host v, the lowest-numbered channel that leaves the switch and whose head is one nearer; none without a switch, a host or a way
 abbrev pub downhill_route : Rack → List ℕ → ℕ → ℕ → Option ℕ
 downhill_route r table c v =
     cond (enters_switch r c && (is_end r v && not (told r table (head r c) v == 255))) (least (one_nearer r table (head r c) v) 0 (channel_count r)) None

@@ -12,10 +12,11 @@ turn_place c p = 36 * c + p - 1
 abbrev pub turn_count : ℕ → ℕ
 turn_count channels = 36 * channels
 
--- where the sixteen bytes of a turn begin in the lane table, and how long that table is
+-- where the sixteen bytes of a turn begin in the lane table
 abbrev pub row_start : ℕ → ℕ → ℕ
 row_start c p = 16 * turn_place c p
 
+-- how many bytes the lane table has on a rack with so many channels
 abbrev pub lane_bytes : ℕ → ℕ
 lane_bytes channels = 16 * turn_count channels
 

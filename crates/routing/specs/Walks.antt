@@ -13,7 +13,7 @@ use Rattle.routing.specs.Paths.{Routing, Hop, hop, PairOf, OnPath, EndsAtHop}
 abbrev pub hop_of : Step → Hop
 hop_of p = hop p.channel.0 p.lane.number
 
--- what is answered to the question for the hop i behind channel c, with so many lanes
+-- what is answered where hop i of the path of the pair at level s is asked for, behind channel c, with so many lanes
 abbrev pub Advances : Routing → ℕ → Pair → ℕ → ℕ → ℕ → Result Step WalkFault → Type 0
 Advances g lanes p s c i (Ok h) =
     (g.next c p.receiver.0 ≡ Some h.channel.0) × (turns g.rack c h.channel.0 ≡ true) × (h.lane.number ≡ g.lane c h.channel.0 s) × (h.lane.number < lanes)
@@ -65,4 +65,4 @@ WalkStops g lanes p s room (Lane q k) =
 WalkStops g lanes p s room (OtherHost q k) =
     (q ≡ p) × PairOf g.rack p.sender.0 p.receiver.0 × (k < channel_count g.rack)
     × ((h : Hop) × Reaches g lanes p.sender.0 p.receiver.0 s k h × (enters_switch g.rack h.channel ≡ false) × (head g.rack h.channel ≢ p.receiver.0))
-WalkStops g lanes p s room Memory = room < channel_count g.rack
+WalkStops g lanes p s room Memory = PairOf g.rack p.sender.0 p.receiver.0 × (room < channel_count g.rack)

@@ -9,7 +9,7 @@ use crate::sizes::node_pairs;
 use rack::numbers::Node;
 use rack::rack::Rack;
 
-// What the distance table holds where there is no way: the table is lent, and the project lays its bytes down.
+// What the distance table holds where there is no way. A byte and no `Option`: the table is lent, and callers read it.
 pub const NO_WAY: u8 = 255;
 
 // The column of a node in the distance table: the places of the distances to it.

@@ -3,7 +3,7 @@ ghost use Rattle.std.specs.Prelude.{◌≡◌, ◌<◌, ◌≤◌, [], ◌∷◌
 ghost use Rattle.rack.specs.Racks.{Leaving, channel_count, head};
 ghost use Rattle.routing.specs.Paths.{PairOf};
 ghost use Rattle.routing.specs.Plans.{routing_of};
-ghost use Rattle.routing.specs.Walks.{Advances, Walked, WalkStops};
+ghost use Rattle.routing.specs.Walks.{Advances, ListsPath, Walked, WalkStops};
 
 use crate::fault::WalkFault;
 use crate::map::LaneMap;
@@ -65,7 +65,7 @@ fn arrive<S, M>(plan: &Plan<'_, S, M>, pair: Pair, last: Channel, hop: u16) -> R
     }
 }
 
-// The path of a pair at a level, into `path`; or the first thing that is wrong with it.
+// The path of a pair at a level, into `path`; or the first thing that is wrong with it, and `path` holds hops from the first on.
 pub fn walk<S: ForwardingSource, M: LaneMap>(
     plan: &Plan<'_, S, M>,
     pair: Pair,
@@ -73,6 +73,7 @@ pub fn walk<S: ForwardingSource, M: LaneMap>(
     path: &mut Vec<Step>,
 ) -> Result<(), WalkFault>
     ensures answer { MatchResult result (λ _. Walked (routing_of S.route M.lanes plan.now) plan.now.lanes pair level.number path.new.items) (WalkStops (routing_of S.route M.lanes plan.now) plan.now.lanes pair level.number (vec_capacity path.old)) }
+    ensures listed { ListsPath (routing_of S.route M.lanes plan.now) pair.sender.0 pair.receiver.0 level.number path.new.items }
     ensures room { vec_capacity path.old ≤ vec_capacity path.new }
 {
     path.clear();

@@ -8,7 +8,7 @@ use Rattle.rack.proofs.Facts.{tail_port_within}
 use Rattle.routing.specs.Turns.{turns, row_start, row_lane, stored_lane, lane_bytes}
 use Rattle.routing.proofs.Tests.{turns_below, turns_enters, entered}
 use Rattle.builder.proofs.Rows.{row_inside}
-use Rattle.workbench.specs.TwoHops.{lane_of, HoldsTwoHop}
+use Rattle.workbench.specs.TwoHops.{lane_of, FilledRows, HoldsTwoHop}
 
 -- the rows of the channels below a number hold the lane behind their channel
 abbrev pub Filled : Rack → List ℕ → ℕ → Type 0
@@ -26,7 +26,7 @@ low true = refl
 low false = refl
 
 -- all channels are filled
-pub filled_all : (r : Rack) (lanes : List ℕ) → lane_bytes (channel_count r) ≤ length lanes → Filled r lanes (channel_count r) → HoldsTwoHop r lanes
+pub filled_all : (r : Rack) (lanes : List ℕ) → lane_bytes (channel_count r) ≤ length lanes → FilledRows r lanes → HoldsTwoHop r lanes
 filled_all r lanes long filled c d s small =
     let switch = slice_index (nodes_of r) (tail r c) == 2 in
     ⊎_elim

@@ -1,3 +1,4 @@
 mod Taking
-mod FileRead
 mod FilledRows
+mod Choosing
+mod Tallying

@@ -1,7 +1,9 @@
 -- What is said of plans. Assumes nothing.
-use Rattle.std.specs.Prelude.{◌≡◌, ℕ, List, [], ◌++◌, take, Some, Ok, Err, Result}
+use Rattle.std.specs.Prelude.{◌≡◌, ℕ, ◌*◌, ◌≤◌, List, [], ◌++◌, length, take, Some, Ok, Err, Result}
 use Rattle.std.specs.List.{flat_map}
 use Rattle.rack.specs.declared.rack.Rack.{Rack}
+use Rattle.rack.specs.Racks.{channel_count}
+use Rattle.routing.specs.Turns.{turn_count}
 use Rattle.routing.specs.Paths.{Routing}
 use Rattle.checking.specs.declared.acceptance.Acceptance.{Acceptance}
 use Rattle.checking.specs.declared.fault.CheckFault.{CheckFault}
@@ -16,7 +18,7 @@ use Rattle.workbench.specs.declared.rack_file.RackFile.{RackFile}
 use Rattle.workbench.specs.RackFiles.{file_route}
 use Rattle.workbench.specs.Rings.{ring_line}
 
--- a lane table on the rack of a file
+-- the routing by a lane table, on the rack of a file and by its forwarding
 abbrev pub file_plan : RackFile → List ℕ → Routing
 file_plan f lanes = planned f.rack (file_route f) lanes
 
@@ -34,10 +36,15 @@ abbrev pub Said : Rack → List ℕ → Result Acceptance CheckFault → List �
 Said r ring (Ok a) text = text ≡ accepted_line a.greatest
 Said r ring (Err f) text = RefusedText r ring f text
 
--- what is said of a plan: what the check of it answers
+-- the work tables have the places that a check of the rack needs
+abbrev pub Roomy : Rack → TablesAt → Type 0
+Roomy r t = (turn_count (channel_count r) ≤ length t.dependencies) × (8 * channel_count r ≤ length t.ranks) × (8 * channel_count r ≤ length t.ring)
+
+-- what is said of a plan: what the check of it answers, in tables that have the places
 pub record CheckText (g : Routing) (levels : List ℕ) (count : ℕ) (text : List ℕ) : Type 0 where
   pub before : TablesAt
   pub after : TablesAt
   pub answer : Result Acceptance CheckFault
+  pub room : Roomy g.rack before
   pub checked : Checked g levels count before after answer
   pub said : Said g.rack after.ring answer text

@@ -3,9 +3,10 @@ pub mod Words
 pub mod Requests
 pub mod Replies
 pub mod Rings
-pub mod Ways
+pub mod Sources
 pub mod RackFiles
 pub mod TwoHops
+pub mod Tallies
 pub mod Summaries
 pub mod Answers
 pub mod Courses

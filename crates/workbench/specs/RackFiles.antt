@@ -1,9 +1,7 @@
 -- What a rack file tells. Assumes nothing.
-use Rattle.std.specs.Prelude.{◌≡◌, ℕ, ◌*◌, ◌≤◌, ◌⊎◌, cond, List, length, take, None, Ok, Err, Option, nat_lt}
+use Rattle.std.specs.Prelude.{◌≡◌, ℕ, ◌*◌, ◌≤◌, ◌⊎◌, cond, List, length, None, Err, Option, nat_lt}
 use Rattle.rack.specs.declared.cable.Cable.{Cable}
-use Rattle.rack.specs.declared.rack.Rack.{Rack}
-use Rattle.rack.specs.Racks.{nodes_of, cables_of, node_count}
-use Rattle.reading.specs.declared.add.Counts.{Counts}
+use Rattle.rack.specs.Racks.{node_count}
 use Rattle.reading.specs.declared.fault.FileFault.{FileFault}
 use Rattle.reading.specs.declared.limits.Limits.{Limits}
 use Rattle.reading.specs.Rules.{Answers}
@@ -12,27 +10,12 @@ use Rattle.routing.specs.Ways.{Distances}
 use Rattle.report.specs.declared.refusal.Refusal.{Refusal}
 use Rattle.report.specs.declared.refusal.Refusal.TheVariants.{File}
 use Rattle.report.specs.Refusals.{told}
+use Rattle.report.specs.Reports.{LetsIn, Reads}
 use Rattle.workbench.specs.declared.rack_file.RackFile.{RackFile}
 
--- as many nodes and cables are let in as can be
-abbrev pub Widest : Limits → Type 0
-Widest limits = (limits.nodes ≡ 128) × (limits.cables ≡ 256)
-
--- the file is accepted, and gives this rack, so many forwarding entries and this forwarding table
-pub record Reads (file : List ℕ) (r : Rack) (entries : ℕ) (forwarding : List ℕ) : Type 0 where
-  pub limits : Limits
-  pub counts : Counts
-  pub nodes : List ℕ
-  pub cables : List Cable
-  pub widest : Widest limits
-  pub answers : Answers limits file (Ok counts) nodes cables forwarding
-  pub all_nodes : nodes_of r ≡ take counts.nodes nodes
-  pub all_cables : cables_of r ≡ take counts.cables cables
-  pub all_entries : counts.entries ≡ entries
-
--- the rack and the tables are those of the file, and the distances are true
+-- as many nodes and cables are let in as can be; the rack and the tables are those of the file, and the distances are true
 pub record IsOf (file : List ℕ) (f : RackFile) : Type 0 where
-  pub reads : Reads file f.rack f.entries f.forwarding.items
+  pub reads : Reads 128 256 file f.rack f.entries f.forwarding.items
   pub room : node_count f.rack * node_count f.rack ≤ length f.distances.items
   pub exact : Distances f.rack f.distances.items
 
@@ -40,7 +23,7 @@ pub record IsOf (file : List ℕ) (f : RackFile) : Type 0 where
 abbrev pub Unread : List ℕ → Refusal → Type 0
 Unread file g =
     (told g ≡ None)
-    ⊎ ((fault : FileFault) × (limits : Limits) × (nodes : List ℕ) × (cables : List Cable) × (forwarding : List ℕ) × (g ≡ File fault) × Widest limits
+    ⊎ ((fault : FileFault) × (limits : Limits) × (nodes : List ℕ) × (cables : List Cable) × (forwarding : List ℕ) × (g ≡ File fault) × LetsIn 128 256 limits
     × Answers limits file (Err fault) nodes cables forwarding)
 
 -- where packets go: by the forwarding entries if there are any, else downhill

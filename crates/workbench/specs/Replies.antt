@@ -24,11 +24,12 @@ reply_text (Refused t) = refused_line t
 reply_text (Closed n) = ok_line (n ∷ [])
 reply_text (Unknown n) = codes "what?" ++ ending (n ∷ [])
 
--- what is told of a fault of the fabric: its own number, with the pair and the hop that it is about; or what is told of the fault of a walk
+-- what is told by a number of the fabric's own, with the pair and the hop that it is about; or what is told of the fault of a walk
 abbrev pub told_by : Option ℕ → Option Pair → ℕ → Option WalkFault → Option Told
 told_by (Some n) p k w = of_pair (Some n) p k
 told_by None p k None = None
 told_by None p k (Some f) = of_walk f
 
+-- what is told of a fault of the fabric
 abbrev pub told_of : FabricFault → Option Told
 told_of f = told_by (fabric_refusal f).number (fabric_refusal f).about (fabric_refusal f).hop (fabric_refusal f).walk

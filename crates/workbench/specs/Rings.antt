@@ -15,6 +15,7 @@ shown_place r x = record {
   head = record { 0 = head_end (cables_of r) (x / 8) };
 }
 
+-- a port, and a virtual channel with both its ends, as bytes
 abbrev pub spot_text : Spot → List ℕ
 spot_text s = codes "node " ++ (decimal s.0.node.0 ++ (codes " port " ++ decimal s.0.port.0))
 
@@ -25,9 +26,11 @@ place_text p = codes "channel " ++ (decimal p.channel ++ (codes " lane " ++ (dec
 abbrev pub place_of : Rack → ℕ → Option Place
 place_of r x = cond (nat_lt (x / 8) (channel_count r)) (Some (shown_place r x)) None
 
+-- the line of a place, if there is one
 abbrev pub line_of : Option Place → List ℕ
 line_of None = []
 line_of (Some p) = place_text p
 
+-- the line of a virtual channel: nothing if the rack has no such channel
 abbrev pub ring_line : Rack → ℕ → List ℕ
 ring_line r x = line_of (place_of r x)

@@ -1,10 +1,10 @@
 // The answers to the lines of a course of calls on a dry fabric.
-ghost use Rattle.std.specs.Prelude.{◌≡◌, ◌≤◌, ◌++◌, length, sum_by, OnOk, IfOk, string_bytes};
-ghost use Rattle.workbench.specs.Courses.{replies, queue_text, queues_text, waiting_text, Answers, AnswersLine, dry_setup};
+ghost use Rattle.std.specs.Prelude.{◌≡◌, ◌≤◌, ◌++◌, length, sum_by, OnOk, IfOk, OnErr, string_bytes};
+ghost use Rattle.workbench.specs.Courses.{replies, queue_text, queues_text, waiting_text, Answers, AnswersLine, KeptOrCalled, dry_setup};
 
 use crate::reply::{Reply, told_of};
 use crate::request::Request;
-use crate::way::Way;
+use crate::source::FileSource;
 use fabric::call::Done;
 use fabric::fabric::Fabric;
 use fabric::fault::FabricFault;
@@ -52,8 +52,8 @@ fn print_queue(out: &mut String, number: usize, count: usize) -> Result<(), Allo
 fn print_queues(out: &mut String, queues: &[Queue]) -> Result<(), AllocError>
     ensures { OnOk result (string_bytes out.new ≡ string_bytes out.old ++ queues_text queues.now (length queues.now)) }
 {
-    for number in 0..queues.len() {
-        print_queue(out, number, queues[number].count())?;
+    for (number, queue) in queues.iter().enumerate() {
+        print_queue(out, number, queue.count())?;
     }
     Ok(())
 }
@@ -73,13 +73,14 @@ fn waiting_line(heap: Global, rack: &Rack, queues: &[Queue]) -> Result<String, A
 // The answer to what a line asks for; none where it asks to close.
 fn answer_to(
     heap: Global,
-    plan: &Plan<'_, Way<'_>, StoredRows<'_>>,
+    plan: &Plan<'_, FileSource<'_>, StoredRows<'_>>,
     fabric: &Fabric,
     queues: &mut [Queue],
     number: usize,
     request: Option<Request>,
 ) -> Result<Option<String>, AllocError>
-    ensures { IfOk result (λ a. Answers (dry_setup plan.now fabric.now.depth) queues.old number request a queues.new) }
+    ensures says { IfOk result (λ a. Answers (dry_setup plan.now fabric.now.depth) queues.old number request a queues.new) }
+    ensures wanting { OnErr result (KeptOrCalled (dry_setup plan.now fabric.now.depth) queues.old queues.new) }
 {
     match request {
         Some(Request::Close) => Ok(None),
@@ -93,16 +94,17 @@ fn answer_to(
 }
 
 // The answer to one line of a course, whose number is told where it asks for nothing; none where it asks to close.
-// If there is no memory for the answer, the call may have been made.
+// If there is no memory for the answer, the call may have been made, and else nothing changed.
 pub fn answer(
     heap: Global,
-    plan: &Plan<'_, Way<'_>, StoredRows<'_>>,
+    plan: &Plan<'_, FileSource<'_>, StoredRows<'_>>,
     fabric: &Fabric,
     queues: &mut [Queue],
     number: usize,
     line: &[u8],
 ) -> Result<Option<String>, AllocError>
-    ensures { IfOk result (λ a. AnswersLine (dry_setup plan.now fabric.now.depth) queues.old number line.now a queues.new) }
+    ensures says { IfOk result (λ a. AnswersLine (dry_setup plan.now fabric.now.depth) queues.old number line.now a queues.new) }
+    ensures wanting { OnErr result (KeptOrCalled (dry_setup plan.now fabric.now.depth) queues.old queues.new) }
 {
     let request = Request::of_bytes(heap, line)?;
     answer_to(heap, plan, fabric, queues, number, request)

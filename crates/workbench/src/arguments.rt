@@ -1,5 +1,5 @@
 // What the words behind the program's name ask for.
-ghost use Rattle.std.specs.Prelude.{◌≡◌, ℕ, [], Some, MatchOption, IfSome};
+ghost use Rattle.std.specs.Prelude.{◌≡◌, ℕ, MatchOption};
 ghost use Rattle.workbench.specs.Words.{Writes};
 
 // What `laneplan` is to do.
@@ -40,7 +40,8 @@ fn small(word: &str) -> Option<u8>
 }
 
 impl<'a> BuildTask<'a> {
-    ghost use Rattle.workbench.specs.Commands.{plainly};
+    ghost use Rattle.workbench.specs.declared.arguments.BuildTask.{BuildTask as Building};
+    ghost use Rattle.workbench.specs.Commands.{plainly, Options};
 
     // With eight lanes, by the builder.
     fn of(rack: &'a str) -> BuildTask<'a>
@@ -56,23 +57,27 @@ impl<'a> BuildTask<'a> {
 
     // With the options that the words name, the last of each; none if they name anything else.
     fn with(self, words: &[&'a str]) -> Option<BuildTask<'a>>
-        ensures plain { words.now ≡ [] → result ≡ Some self.entry }
-        ensures rack { IfSome result (λ t. t.rack ≡ self.entry.rack) }
+        ensures { MatchOption result ((t : Building) → Options self.entry words.now t → ⊥) (Options self.entry words.now) }
     {
-        match words {
-            [] => Some(self),
-            ["--two-hop", rest @ ..] => BuildTask {
+        let Some((option, rest)) = words.split_first() else {
+            return Some(self);
+        };
+        if *option == "--two-hop" {
+            return BuildTask {
                 two_hop: true,
                 ..self
             }
-            .with(rest),
-            ["--lanes", lanes, rest @ ..] => BuildTask {
-                lanes: small(lanes)?,
+            .with(rest);
+        }
+        let (word, rest) = rest.split_first()?;
+        match *option {
+            "--lanes" => BuildTask {
+                lanes: small(word)?,
                 ..self
             }
             .with(rest),
-            ["--out", path, rest @ ..] => BuildTask {
-                out: Some(*path),
+            "--out" => BuildTask {
+                out: Some(*word),
                 ..self
             }
             .with(rest),
@@ -83,11 +88,11 @@ impl<'a> BuildTask<'a> {
 
 impl<'a> Task<'a> {
     ghost use Rattle.workbench.specs.declared.arguments.Task.{Task as Tasks};
-    ghost use Rattle.workbench.specs.Commands.{Names, SurelyNames};
+    ghost use Rattle.workbench.specs.Commands.{Names};
 
     // The task that the words name; none if they name none.
     pub fn of_words(words: &[&'a str]) -> Option<Task<'a>>
-        ensures { MatchOption result ((t : Tasks) → SurelyNames words.now t → ⊥) (Names words.now) }
+        ensures { MatchOption result ((t : Tasks) → Names words.now t → ⊥) (Names words.now) }
     {
         match words {
             ["build", rack, options @ ..] => {

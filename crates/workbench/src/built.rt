@@ -3,6 +3,10 @@ ghost use Rattle.std.specs.Prelude.{◌≤◌, length, IfOk};
 ghost use Rattle.rack.specs.Racks.{channel_count};
 ghost use Rattle.routing.specs.Turns.{lane_bytes};
 ghost use Rattle.builder.specs.Method.{tables};
+ghost use Rattle.workbench.specs.PlanFiles.{Fits};
+ghost use Rattle.checking.specs.Plans.{AllFine};
+ghost use Rattle.checking.specs.Answers.{tables_at};
+ghost use Rattle.workbench.specs.Answers.{file_plan, Roomy};
 ghost use Rattle.workbench.specs.Builds.{LaidOut, AcceptedSays, BuildSays};
 
 use crate::checked::{check_plan, refusal_text};
@@ -43,7 +47,7 @@ fn lay_out(
         levels.fill(0);
         return Ok(());
     }
-    build(heap, &rack.rack, &rack.way(), lane_count, lanes, levels)
+    build(heap, &rack.rack, &rack.source(), lane_count, lanes, levels)
 }
 
 // An accepted plan: its greatest rank, its summary and its file.
@@ -53,11 +57,13 @@ fn accepted(
     plan: PlanFile<'_>,
     greatest: u16,
 ) -> Result<Built, AllocError>
-    ensures { IfOk result (AcceptedSays rack.now.rack plan.entry.lane_count plan.entry.lanes.now plan.entry.levels.now greatest) }
+    requires fits { Fits rack.now.rack plan.lanes.now plan.levels.now }
+    requires fine { AllFine (file_plan rack.now plan.lanes.now) plan.levels.now plan.lane_count }
+    ensures { IfOk result (AcceptedSays rack.now plan.entry.lane_count plan.entry.lanes.now plan.entry.levels.now greatest) }
 {
     let made = Plan {
         rack: &rack.rack,
-        source: &rack.way(),
+        source: &rack.source(),
         map: &StoredRows {
             rack: &rack.rack,
             lanes: plan.lanes,
@@ -65,9 +71,14 @@ fn accepted(
         levels: plan.levels,
         lanes: plan.lane_count,
     };
-    // the plan is accepted, so that only memory can be wanting
-    let Ok(summary) = Summary::of(heap, &made, greatest) else {
-        return Err(AllocError);
+    let summary = match Summary::of(heap, &made, greatest) {
+        Ok(summary) => summary,
+        Err(refusal) => {
+            // the pairs are fine, so that only memory is wanting
+            let told = tell(refusal);
+            prove!(told.is_none());
+            return Err(AllocError);
+        }
     };
     let mut text = accepted_line(heap, greatest)?;
     write!(text, "{summary}")?;
@@ -90,7 +101,8 @@ fn build_in(
     ranks: &mut [u16],
     ring: &mut [u16],
 ) -> Result<Built, AllocError>
-    requires { lane_bytes (channel_count rack.now.rack) ≤ length lanes.old }
+    requires fits { Fits rack.now.rack lanes.old levels.old }
+    requires room { Roomy rack.now.rack (tables_at dependencies.old ranks.old ring.old) }
     ensures { IfOk result (BuildSays rack.now lane_count two_hop) }
 {
     if let Err(fault) = lay_out(heap, rack, lane_count, two_hop, lanes, levels) {

@@ -28,7 +28,7 @@ pub fn check_plan(
 ) -> Result<Acceptance, CheckFault>
     ensures { Checked (file_plan rack.now plan.entry.lanes.now) plan.entry.levels.now plan.entry.lane_count (tables_at dependencies.old ranks.old ring.old) (tables_at dependencies.new ranks.new ring.new) result }
 {
-    let source = rack.way();
+    let source = rack.source();
     let map = StoredRows {
         rack: &rack.rack,
         lanes: plan.lanes,

@@ -1,5 +1,5 @@
 // A dry fabric under the plan of a plan file: its start and its end.
-ghost use Rattle.std.specs.Prelude.{IfOk};
+ghost use Rattle.std.specs.Prelude.{◌≡◌, IfOk, OnErr};
 ghost use Rattle.workbench.specs.Starts.{OpenSays, StartSays, CloseSays};
 
 use crate::checked::{check_plan, refusal_text};
@@ -30,7 +30,8 @@ fn open_accepted(
     depth: u8,
     queues: &mut [Queue],
 ) -> Result<Start, AllocError>
-    ensures { IfOk result (OpenSays rack.now.rack plan.entry.levels.now plan.entry.lane_count depth queues.old queues.new) }
+    ensures says { IfOk result (OpenSays rack.now.rack plan.entry.levels.now plan.entry.lane_count depth queues.old queues.new) }
+    ensures kept { OnErr result (queues.new ≡ queues.old) }
 {
     // opening asks for no source and no map
     let plan = Plan {
@@ -57,7 +58,8 @@ pub fn open_dry(
     depth: u8,
     queues: &mut [Queue],
 ) -> Result<Start, AllocError>
-    ensures { IfOk result (StartSays rack.now plan.entry.lanes.now plan.entry.levels.now plan.entry.lane_count depth queues.old queues.new) }
+    ensures says { IfOk result (StartSays rack.now plan.entry.lanes.now plan.entry.levels.now plan.entry.lane_count depth queues.old queues.new) }
+    ensures kept { OnErr result (queues.new ≡ queues.old) }
 {
     let mut tables = PlanTables::new(heap, &rack.rack)?;
     let answer = check_plan(
@@ -78,11 +80,12 @@ pub fn open_dry(
 }
 
 // Closes the fabric: what is said then.
-pub fn close<S, M>(fabric: Fabric, plan: &Plan<'_, S, M>, queues: &[Queue]) -> Option<Reply>
+pub fn close<S, M>(fabric: Fabric, plan: &Plan<'_, S, M>, queues: &[Queue]) -> Reply
     ensures { CloseSays plan.now queues.now result }
 {
     match fabric.close(plan, queues) {
-        Ok(waiting) => Some(Reply::Closed { waiting }),
-        Err(refused) => Some(Reply::Refused(told_of(refused.fault)?)),
+        Ok(waiting) => Reply::Closed { waiting },
+        // what keeps a call from its start has a number
+        Err(refused) => Reply::Refused(told_of(refused.fault).unwrap()),
     }
 }

@@ -1,10 +1,10 @@
-// A rack as its file tells it, with the way that its packets go.
+// A rack as its file tells it, with the source that its packets go by.
 ghost use Rattle.std.specs.Prelude.{◌≡◌, ◌*◌, ◌≤◌, length, MatchResult};
 ghost use Rattle.rack.specs.Racks.{node_count};
 ghost use Rattle.routing.specs.Ways.{Distances};
 ghost use Rattle.report.specs.declared.refusal.Refusal.TheVariants.{Memory};
 
-use crate::way::Way;
+use crate::source::FileSource;
 use rack::rack::Rack;
 use reading::limits::{CABLES, Limits, NODES};
 use reading::read::read;
@@ -16,7 +16,7 @@ use routing::sizes::node_pairs;
 use routing::stored::Stored;
 use std::alloc::Global;
 
-// A rack with the tables of its two ways: how many forwarding entries the file has, and where they lead; the distances, if it has none.
+// A rack with the tables of two sources: how many forwarding entries the file has, and where they lead; and the distances, which count if it has none.
 #[derive(Drop)]
 pub struct RackFile {
     pub rack: Rack,
@@ -36,7 +36,7 @@ fn distances_of(heap: Global, rack: &Rack) -> Result<Vec<u8>, Refusal>
 
 impl RackFile {
     ghost use Rattle.workbench.specs.RackFiles.{file_route, IsOf, Unread};
-    ghost use Rattle.workbench.specs.Ways.{way_route};
+    ghost use Rattle.workbench.specs.Sources.{source_route};
 
     // What the bytes of a rack file tell: of as many nodes and cables as can be read.
     pub fn read(heap: Global, file: &[u8]) -> Result<RackFile, Refusal>
@@ -62,18 +62,18 @@ impl RackFile {
         })
     }
 
-    // The way of its packets: by the forwarding entries if there are any, else downhill.
-    pub fn way(&self) -> Way<'_>
-        ensures { way_route result ≡ file_route self.now }
+    // The source that its packets go by: its forwarding entries if there are any, else downhill.
+    pub fn source(&self) -> FileSource<'_>
+        ensures { source_route result ≡ file_route self.now }
     {
         let rack = &self.rack;
         if self.entries > 0 {
-            Way::Stored(Stored {
+            FileSource::Stored(Stored {
                 rack,
                 forwarding: &self.forwarding,
             })
         } else {
-            Way::Downhill(Downhill {
+            FileSource::Downhill(Downhill {
                 rack,
                 distances: &self.distances,
             })

@@ -1,17 +1,16 @@
 // The summary of an accepted plan.
-ghost use Rattle.std.specs.Prelude.{Some, IfOk};
-ghost use Rattle.workbench.specs.Summaries.{rack_line, lanes_line, paths_line, summary_text, Sums};
+ghost use Rattle.std.specs.Prelude.{◌≡◌, ◌≤◌, Some, MatchResult};
+ghost use Rattle.routing.specs.Plans.{routing_of};
+ghost use Rattle.workbench.specs.Tallies.{NoTally};
+ghost use Rattle.workbench.specs.Summaries.{rack_line, lanes_line, paths_line, summary_text, host_count, Sums};
 
-use crate::way::Way;
-use checking::fault::CheckFault;
+use crate::tally::Tally;
 use rack::numbers::Node;
 use rack::rack::Rack;
 use report::refusal::Refusal;
-use routing::pair::Pair;
-use routing::pairs::Pairs;
-use routing::plan::{Plan, level_of};
-use routing::rows::StoredRows;
-use routing::walk::{Step, walk};
+use routing::map::LaneMap;
+use routing::plan::Plan;
+use routing::source::ForwardingSource;
 use std::alloc::Global;
 use std::fmt;
 
@@ -96,70 +95,35 @@ impl fmt::Display for Summary {
     }
 }
 
-// What the paths so far use: one more than the greatest lane and level, and the channels of the longest.
-#[derive(Clone, Copy, PartialEq, Eq, Debug)]
-struct Tally {
-    lanes: u8,
-    levels: u8,
-    longest: usize,
-}
-
-impl Tally {
-    // With a pair of the plan more, whose path is walked into `path`.
-    fn with_pair(
-        self,
-        plan: &Plan<'_, Way<'_>, StoredRows<'_>>,
-        pair: Pair,
-        path: &mut Vec<Step>,
-    ) -> Result<Tally, Refusal> {
-        let level = level_of(plan.rack, plan.levels, pair).ok_or(CheckFault::Level { pair })?;
-        walk(plan, pair, level, path)?;
-        let lanes = path.iter().map(|step| step.lane.number() + 1).max();
-        Ok(Tally {
-            lanes: self.lanes.max(lanes.unwrap_or(0)),
-            levels: self.levels.max(level.number() + 1),
-            longest: self.longest.max(path.len()),
-        })
-    }
-}
-
-// What the paths of all pairs use.
-fn tally_all(heap: Global, plan: &Plan<'_, Way<'_>, StoredRows<'_>>) -> Result<Tally, Refusal> {
-    let mut path = Vec::with_capacity(heap, plan.rack.channel_count())?;
-    let mut tally = Tally {
-        lanes: 0,
-        levels: 0,
-        longest: 0,
-    };
-    for pair in Pairs::of(plan.rack) {
-        tally = tally.with_pair(plan, pair, &mut path)?;
-    }
-    Ok(tally)
-}
-
 // How many hosts a rack has.
-fn host_count(rack: &Rack) -> usize {
-    (0..rack.node_count() as u16)
-        .filter(|number| rack.is_host(Node(*number)))
-        .count()
+fn host_count(rack: &Rack) -> usize
+    ensures { (result ≡ host_count rack.now) × (result ≤ 128) }
+{
+    let mut hosts = 0;
+    for number in 0..rack.node_count() as u16 {
+        if rack.is_host(Node(number)) {
+            hosts += 1;
+        }
+    }
+    hosts
 }
 
 impl Summary {
     // The summary of a plan that is accepted with this greatest rank.
-    pub fn of(
+    pub fn of<S: ForwardingSource, M: LaneMap>(
         heap: Global,
-        plan: &Plan<'_, Way<'_>, StoredRows<'_>>,
+        plan: &Plan<'_, S, M>,
         greatest: u16,
     ) -> Result<Summary, Refusal>
-        ensures { IfOk result (Sums plan.now.rack.now plan.now.lanes greatest) }
+        ensures { MatchResult result (Sums (routing_of S.route M.lanes plan.now) plan.now.levels.now plan.now.lanes greatest) (NoTally (routing_of S.route M.lanes plan.now) plan.now.levels.now plan.now.lanes) }
     {
-        let tally = tally_all(heap, plan)?;
+        let tally = Tally::of(heap, plan)?;
         let hosts = host_count(plan.rack);
         Ok(Summary {
             size: RackSize {
                 nodes: plan.rack.node_count(),
                 cables: plan.rack.channel_count() / 2,
-                pairs: hosts.saturating_mul(hosts.saturating_sub(1)),
+                pairs: hosts * hosts.saturating_sub(1),
             },
             used: LanesUsed {
                 lane_count: plan.lanes,

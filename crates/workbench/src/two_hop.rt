@@ -2,7 +2,7 @@
 ghost use Rattle.std.specs.Prelude.{◌≡◌, ◌≤◌, length};
 ghost use Rattle.rack.specs.Racks.{channel_count};
 ghost use Rattle.routing.specs.Turns.{lane_bytes};
-ghost use Rattle.workbench.specs.TwoHops.{HoldsTwoHop, lane_of};
+ghost use Rattle.workbench.specs.TwoHops.{FilledRows, HoldsTwoHop, lane_of};
 
 use rack::numbers::Channel;
 use rack::rack::Rack;
@@ -25,6 +25,7 @@ fn lane_behind(rack: &Rack, channel: Channel) -> u8
 pub(crate) fn fill_two_hop(rack: &Rack, lanes: &mut [u8])
     requires { lane_bytes (channel_count rack.now) ≤ length lanes.old }
     ensures long { length lanes.new ≡ length lanes.old }
+    ensures rows { FilledRows rack.now lanes.new }
     ensures map { HoldsTwoHop rack.now lanes.new }
 {
     for channel in 0..rack.channel_count() {

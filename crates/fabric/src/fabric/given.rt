@@ -1,6 +1,6 @@
 // What every call on a fabric asks first.
 ghost use Rattle.std.specs.Prelude.{◌≡◌, ◌≤◌, Decides, MatchResult};
-ghost use Rattle.checking.specs.Starts.{Ranged};
+ghost use Rattle.routing.specs.Plans.{OneToEight};
 ghost use Rattle.fabric.specs.Calls.{CanStart, CannotStart};
 
 use crate::fabric::Fabric;
@@ -11,7 +11,7 @@ use routing::sizes::{node_pairs, virtual_channels};
 
 // Whether a lane count or a depth is in range.
 pub(crate) fn is_ranged(count: u8) -> bool
-    ensures { Decides result (Ranged count) }
+    ensures { Decides result (OneToEight count) }
 {
     (1..=8).contains(&count)
 }

@@ -1,7 +1,7 @@
 // Opening a fabric.
 ghost use Rattle.std.specs.Prelude.{◌≡◌, ◌*◌, ◌≤◌, length, IfOk, OnOk, IfErr, OnErr};
 ghost use Rattle.rack.specs.Racks.{channel_count};
-ghost use Rattle.checking.specs.Starts.{Ranged};
+ghost use Rattle.routing.specs.Plans.{OneToEight};
 ghost use Rattle.fabric.specs.Calls.{CanStart, CannotOpen, Emptied};
 
 use crate::fabric::Fabric;
@@ -36,7 +36,7 @@ pub fn open<S, M>(
     queues: &mut [Queue],
 ) -> Result<Fabric, NotOpened>
     ensures depth { IfOk result (λ f. f.depth ≡ depth) }
-    ensures ranged { OnOk result (Ranged depth) }
+    ensures ranged { OnOk result (OneToEight depth) }
     ensures ready { OnOk result (CanStart plan.now (length queues.old)) }
     ensures emptied { OnOk result (Emptied plan.now.rack.now queues.old queues.new) }
     ensures why { IfErr result (λ n. CannotOpen depth plan.now (length queues.old) n.fault) }

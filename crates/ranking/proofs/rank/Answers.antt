@@ -6,7 +6,7 @@ use Rattle.ranking.proofs.rank.Goals as goal
 
 pub returns-clause-answer : goal.returns-clause-answer
 returns-clause-answer g c =
-    let f = g.G.Graph.follows c.args.graph.now in
+    let f = g.G.Graph.followed_by c.args.graph.now in
     let s = c.args.ranks.now in
     let t = c.rank_points.new.ranks in
     let u = c.args.ring.now in

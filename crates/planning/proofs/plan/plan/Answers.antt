@@ -4,8 +4,8 @@ use Rattle.checking.specs.Answers.{tables_at}
 use Rattle.planning.proofs.Built.{all_fine, all_rise, only_short}
 use Rattle.planning.proofs.plan.plan.Goals as goal
 
-pub returns-in_err-acceptance : goal.returns-in_err-acceptance
-returns-in_err-acceptance g c =
+pub returns-in_err-acceptance-clause-answer : goal.returns-in_err-acceptance-clause-answer
+returns-in_err-acceptance-clause-answer g c =
     let r = c.args.rack.now in
     let route = g.S.ForwardingSource.route c.args.source.now in
     let lanes = c.build.new.lanes in

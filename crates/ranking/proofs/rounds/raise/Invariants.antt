@@ -3,7 +3,7 @@ use Rattle.ranking.proofs.rounds.raise.Given as goal
 
 abbrev pub invariant-loop-y : goal.invariant-loop-y
 invariant-loop-y g l =
-    let f = g.G.Graph.follows l.graph l.x in
+    let f = g.G.Graph.followed_by l.graph l.x in
     (goal.iterator-loop-y g).can_next l.y-iterator
     × (goal.iterator-loop-y g).is_finite l.y-iterator
     × (l.y-iterator.graph.now ≡ l.graph)

@@ -9,7 +9,7 @@ loop-x-init g c =
 
 pub loop-x-preserved : goal.loop-x-preserved
 loop-x-preserved g c =
-    let f = g.G.Graph.follows c.args.graph.now in
+    let f = g.G.Graph.followed_by c.args.graph.now in
     let n = g.G.Graph.size c.args.graph.now in
     let within = g.met.G.Graph.within c.args.graph.now in
     let r = c.args.r in

@@ -34,8 +34,8 @@ returns c =
     let entries = c.in_ok-counts.counts.entries in
     let same = shown (goal.at.returns c).After-deref-2 in
     let forwarding : c.deref-3.result.now ≡ c.read.new.forwarding = written c.in_ok-tables.tables.forwarding.items c.deref-3.ensures.value (omega arith) in
-    let read : Reads file r entries c.read.new.forwarding =
-    reads file c.at_most.result c.in_ok-counts.counts c.read.new.nodes c.read.new.cables c.read.new.forwarding r c.at_most.ensures c.in_ok-counts.ensures.few (omega (arith, c.in_ok-tables.ensures.forwarding)) (c.in_ok-counts.ensures.answers (sized (goal.at.returns c).After-deref_mut-3)) (rw same.0 at c.in_ok-rack.ensures.0) (rw same.1 at c.in_ok-rack.ensures.1)
+    let read : Reads 12 16 file r entries c.read.new.forwarding =
+    reads 12 16 file c.at_most.result c.in_ok-counts.counts c.read.new.nodes c.read.new.cables c.read.new.forwarding r c.at_most.ensures c.in_ok-counts.ensures.few (omega (arith, c.in_ok-tables.ensures.forwarding)) (c.in_ok-counts.ensures.answers (sized (goal.at.returns c).After-deref_mut-3)) (rw same.0 at c.in_ok-rack.ensures.0) (rw same.1 at c.in_ok-rack.ensures.1)
     in
     let answer = rw forwarding at c.rack_lines.ensures in
     MatchResult-weaker c.rack_lines.result answer (λ s x. (r, x.0, (entries, c.read.new.forwarding, read, x.1), x.2)) (λ f l. untold file r entries c.read.new.forwarding f read l)

@@ -1,9 +1,8 @@
 use Rattle.std.proofs.Common.{◌≡◌, ◌++◌, length, take, drop, sym, refl, subst, inl, inr, arith}
 use Rattle.std.proofs.lemmas.Result.{err_from_is_err_and}
 use Rattle.reading.specs.Rules.{Sized}
-use Rattle.report.proofs.Outcomes.{written, unmade}
-use Rattle.workbench.specs.RackFiles.{Reads}
-use Rattle.workbench.proofs.FileRead.{reads}
+use Rattle.report.specs.Reports.{Reads}
+use Rattle.report.proofs.Outcomes.{written, unmade, reads}
 use Rattle.workbench.proofs.rack_file.RackFile.read.Goals as goal
 use Rattle.workbench.proofs.rack_file.RackFile.read.Goals.{After-deref_mut-3, After-deref-2}
 
@@ -37,7 +36,7 @@ returns c =
     let forwarding : take c.in_ok-tables.tables.forwarding.len (c.read.new.forwarding ++ drop (length c.read.new.forwarding) c.in_ok-tables.tables.forwarding.items) ≡ c.read.new.forwarding =
     written c.in_ok-tables.tables.forwarding.items refl (omega (arith, c.read.auto.forwarding))
     in
-    let read : Reads file r counts.entries c.read.new.forwarding =
-    reads file c.at_most.result counts c.read.new.nodes c.read.new.cables c.read.new.forwarding r c.at_most.ensures c.in_ok-counts.ensures.few (omega (arith, c.in_ok-tables.ensures.forwarding)) (c.in_ok-counts.ensures.answers (sized (goal.at.returns c).After-deref_mut-3)) (rw same.0 at c.in_ok-rack.ensures.0) (rw same.1 at c.in_ok-rack.ensures.1)
+    let read : Reads 128 256 file r counts.entries c.read.new.forwarding =
+    reads 128 256 file c.at_most.result counts c.read.new.nodes c.read.new.cables c.read.new.forwarding r c.at_most.ensures c.in_ok-counts.ensures.few (omega (arith, c.in_ok-tables.ensures.forwarding)) (c.in_ok-counts.ensures.answers (sized (goal.at.returns c).After-deref_mut-3)) (rw same.0 at c.in_ok-rack.ensures.0) (rw same.1 at c.in_ok-rack.ensures.1)
     in
-    record { reads = subst (Reads file r counts.entries) (sym forwarding) read; room = c.in_ok-distances.ensures.0; exact = c.in_ok-distances.ensures.1 }
+    record { reads = subst (Reads 128 256 file r counts.entries) (sym forwarding) read; room = c.in_ok-distances.ensures.0; exact = c.in_ok-distances.ensures.1 }
