@@ -13,7 +13,7 @@ use routing::rows::{StoredRows, row_of, row_place, turn_port};
 use routing::walk::Step;
 
 // Whether every middle turn of the path has room at the level: its entry there is 0 or its own lane.
-pub fn fits(rack: &Rack, lanes: &[u8], path: &[Step], level: Level) -> bool
+pub(crate) fn fits(rack: &Rack, lanes: &[u8], path: &[Step], level: Level) -> bool
     ensures { Decides result (Fits rack.now lanes.now (channels_of path.now) level.number) }
 {
     let rows = StoredRows { rack, lanes };
@@ -29,7 +29,7 @@ pub fn fits(rack: &Rack, lanes: &[u8], path: &[Step], level: Level) -> bool
 }
 
 // The lowest level at which every middle turn of the path has room; none if there is none.
-pub fn lowest_level(rack: &Rack, lanes: &[u8], path: &[Step]) -> Option<Level>
+pub(crate) fn lowest_level(rack: &Rack, lanes: &[u8], path: &[Step]) -> Option<Level>
     ensures { MatchOption result (NoLevel rack.now lanes.now (channels_of path.now)) (λ s. Lowest rack.now lanes.now (channels_of path.now) s.number) }
 {
     (0..16)
@@ -57,7 +57,7 @@ fn claim(
 }
 
 // Gives every middle turn of the path its lane at the level.
-pub fn claim_all(rack: &Rack, lanes: &mut [u8], path: &[Step], level: Level)
+pub(crate) fn claim_all(rack: &Rack, lanes: &mut [u8], path: &[Step], level: Level)
     requires passes { Passes rack.now (channels_of path.now) }
     requires short { length path.now ≤ 10 }
     requires long { lane_bytes (channel_count rack.now) ≤ length lanes.old }

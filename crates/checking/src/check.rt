@@ -19,7 +19,7 @@ use routing::sizes::{dependency_words, node_pairs, virtual_channels};
 use routing::source::ForwardingSource;
 use std::alloc::Global;
 
-// Whether the lane count is in range and the tables are long enough. The range is one comparison, and the definitions of each layer name it in their own words.
+// Whether the lane count is in range and the tables are long enough. The range is one comparison, which the builder and the fabric make too, by one definition.
 fn admissible<S: ForwardingSource, M: LaneMap>(
     plan: &Plan<'_, S, M>,
     dependencies: &[u64],

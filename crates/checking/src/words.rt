@@ -11,7 +11,7 @@ fn has(word: u64, place: u8) -> bool
 }
 
 // The lowest i from `from` on, below 8, such that bit `first` + `step` i of the word is set.
-pub fn lowest(word: u64, first: u8, step: u8, from: u8) -> Option<u8>
+pub(crate) fn lowest(word: u64, first: u8, step: u8, from: u8) -> Option<u8>
     requires { first + 7 * step < 64 }
     ensures { MatchOption result ((i : ℕ) → from ≤ i → i < 8 → bit word (first + step * i) ≡ false) (λ i. (from ≤ i) × (i < 8) × (bit word (first + step * i) ≡ true) × ((k : ℕ) → from ≤ k → k < i → bit word (first + step * k) ≡ false)) }
 {

@@ -1,8 +1,7 @@
 use Rattle.std.proofs.Common.{◌≡◌, ◌+◌, ◌*◌, ◌%◌, ◌^◌, sym, refl, ap, ◌∙◌, arith}
-use Rattle.std.proofs.lemmas.Bool.{both_ways}
 use Rattle.std.proofs.lemmas.Nat.{one_shl}
 use Rattle.rack.specs.Racks.{tail_port}
-use Rattle.routing.specs.Turns.{turns, turn_place}
+use Rattle.routing.specs.Turns.{turn_place}
 use Rattle.routing.proofs.Tests.{turns_enters, entered}
 use Rattle.checking.proofs.Adding.{adds_mark}
 use Rattle.checking.proofs.marks.mark.Goals as goal
