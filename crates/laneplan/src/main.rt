@@ -8,6 +8,7 @@ use report::refusal::{Refusal, tell};
 use routing::plan::Plan;
 use routing::rows::StoredRows;
 use routing::sizes::virtual_channels;
+use routing::stored::Stored;
 use std::alloc::{AllocError, AllocFailed, Global};
 use std::io::{BufRead, BufReader};
 use std::process::ExitCode;
@@ -19,7 +20,6 @@ use workbench::checked::check_text;
 use workbench::dry::{Start, close, open_dry};
 use workbench::plan_file::{PlanFile, plan_in};
 use workbench::rack_file::RackFile;
-use workbench::source::FileSource;
 
 // Why the program stops short, with status 1.
 #[derive(Debug, Drop)]
@@ -93,7 +93,7 @@ fn check(rt: &HostRuntime, rack: &RackFile, plan: PlanFile<'_>) -> Result<(), St
 // Answers the lines of standard input until one asks to close, or there are no more.
 fn course(
     rt: &HostRuntime,
-    plan: &Plan<'_, FileSource<'_>, StoredRows<'_>>,
+    plan: &Plan<'_, Stored<'_>, StoredRows<'_>>,
     fabric: &Fabric,
     queues: &mut [Queue],
 ) -> Result<(), Stop> {

@@ -1,3 +1,4 @@
+mod Downhills
 mod Taking
 mod FilledRows
 mod Choosing

@@ -4,6 +4,8 @@ use Rattle.rack.specs.declared.rack.Rack.{Rack}
 use Rattle.rack.specs.Racks.{channel_count}
 use Rattle.routing.specs.declared.plan.Plan.{Plan}
 use Rattle.routing.specs.declared.rows.StoredRows.{StoredRows}
+use Rattle.routing.specs.declared.stored.Stored.{Stored}
+use Rattle.routing.specs.Sources.{stored_route}
 use Rattle.routing.specs.Turns.{stored_lane}
 use Rattle.courses.specs.Queues.{Queues, at}
 use Rattle.fabric.specs.declared.packet.Packet.{Packet}
@@ -14,8 +16,6 @@ use Rattle.workbench.specs.declared.reply.Reply.{Reply}
 use Rattle.workbench.specs.declared.reply.Reply.TheVariants.{Done, Refused, Unknown}
 use Rattle.workbench.specs.declared.request.Request.{Request}
 use Rattle.workbench.specs.declared.request.Request.TheVariants.{Call, Waiting, Close}
-use Rattle.workbench.specs.declared.source.FileSource.{FileSource}
-use Rattle.workbench.specs.Sources.{source_route}
 use Rattle.workbench.specs.Requests.{AskedIn}
 use Rattle.workbench.specs.Replies.{told_of, reply_text}
 
@@ -48,8 +48,8 @@ abbrev pub waiting_text : Rack → Queues Packet → List ℕ
 waiting_text r qs = waiting_in (take (8 * channel_count r) qs)
 
 -- what calls go by, under the plan of a plan file
-abbrev pub dry_setup : Plan FileSource StoredRows → ℕ → Setup
-dry_setup plan depth = setup_of source_route (λ m. stored_lane m.rack.now m.lanes.now) plan depth
+abbrev pub dry_setup : Plan Stored StoredRows → ℕ → Setup
+dry_setup plan depth = setup_of (λ s. stored_route s.rack.now s.forwarding.now) (λ m. stored_lane m.rack.now m.lanes.now) plan depth
 
 -- what is answered to what a line asks for, and what becomes of the packets
 abbrev pub Answered : Setup → Queues Packet → ℕ → Option Request → List ℕ → Queues Packet → Type 0

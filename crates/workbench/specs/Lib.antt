@@ -3,7 +3,6 @@ pub mod Words
 pub mod Requests
 pub mod Replies
 pub mod Rings
-pub mod Sources
 pub mod RackFiles
 pub mod TwoHops
 pub mod Tallies

@@ -4,7 +4,6 @@ ghost use Rattle.workbench.specs.Courses.{replies, queue_text, queues_text, wait
 
 use crate::reply::{Reply, told_of};
 use crate::request::Request;
-use crate::source::FileSource;
 use fabric::call::Done;
 use fabric::fabric::Fabric;
 use fabric::fault::FabricFault;
@@ -13,6 +12,7 @@ use rack::rack::Rack;
 use routing::plan::Plan;
 use routing::rows::StoredRows;
 use routing::sizes::virtual_channels;
+use routing::stored::Stored;
 use std::alloc::{AllocError, Global};
 
 // The line that answers a call.
@@ -73,7 +73,7 @@ fn waiting_line(heap: Global, rack: &Rack, queues: &[Queue]) -> Result<String, A
 // The answer to what a line asks for; none where it asks to close.
 fn answer_to(
     heap: Global,
-    plan: &Plan<'_, FileSource<'_>, StoredRows<'_>>,
+    plan: &Plan<'_, Stored<'_>, StoredRows<'_>>,
     fabric: &Fabric,
     queues: &mut [Queue],
     number: usize,
@@ -97,7 +97,7 @@ fn answer_to(
 // If there is no memory for the answer, the call may have been made, and else nothing changed.
 pub fn answer(
     heap: Global,
-    plan: &Plan<'_, FileSource<'_>, StoredRows<'_>>,
+    plan: &Plan<'_, Stored<'_>, StoredRows<'_>>,
     fabric: &Fabric,
     queues: &mut [Queue],
     number: usize,

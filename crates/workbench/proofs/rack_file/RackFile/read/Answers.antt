@@ -1,10 +1,11 @@
-use Rattle.std.proofs.Common.{◌≡◌, ◌++◌, length, take, drop, sym, refl, subst, inl, inr, arith}
+use Rattle.std.proofs.Common.{◌≡◌, ◌++◌, length, take, drop, refl, ap, ◌∙◌, inl, inr, arith}
 use Rattle.std.proofs.lemmas.Result.{err_from_is_err_and}
 use Rattle.reading.specs.Rules.{Sized}
+use Rattle.routing.specs.Sources.{stored_route}
 use Rattle.report.specs.Reports.{Reads}
 use Rattle.report.proofs.Outcomes.{written, unmade, reads}
 use Rattle.workbench.proofs.rack_file.RackFile.read.Goals as goal
-use Rattle.workbench.proofs.rack_file.RackFile.read.Goals.{After-deref_mut-3, After-deref-2}
+use Rattle.workbench.proofs.rack_file.RackFile.read.Goals.{After-deref_mut-3, After-deref-2, then-counts-gt0, else-counts-gt0+in_ok-forwarding}
 
 -- the tables are of the lengths needed
 sized : (c : After-deref_mut-3) → Sized c.deref_mut.result.now c.deref_mut-2.result.now c.deref_mut-3.result.now
@@ -32,11 +33,30 @@ returns c =
     let same = shown (goal.at.returns c).After-deref-2 in
     let file = c.args.file.now in
     let r = c.in_ok-rack.rack in
-    let counts = c.in_ok-counts.counts in
-    let forwarding : take c.in_ok-tables.tables.forwarding.len (c.read.new.forwarding ++ drop (length c.read.new.forwarding) c.in_ok-tables.tables.forwarding.items) ≡ c.read.new.forwarding =
+    let entries = c.in_ok-counts.counts.entries in
+    let given = c.read.new.forwarding in
+    let held = c.in_ok-tables.ensures in
+    let found : take c.in_ok-tables.tables.forwarding.len (given ++ drop (length given) c.in_ok-tables.tables.forwarding.items) ≡ given =
     written c.in_ok-tables.tables.forwarding.items refl (omega (arith, c.read.auto.forwarding))
     in
-    let read : Reads 128 256 file r counts.entries c.read.new.forwarding =
-    reads 128 256 file c.at_most.result counts c.read.new.nodes c.read.new.cables c.read.new.forwarding r c.at_most.ensures c.in_ok-counts.ensures.few (omega (arith, c.in_ok-tables.ensures.forwarding)) (c.in_ok-counts.ensures.answers (sized (goal.at.returns c).After-deref_mut-3)) (rw same.0 at c.in_ok-rack.ensures.0) (rw same.1 at c.in_ok-rack.ensures.1)
+    let read : Reads 128 256 file r entries given =
+    reads 128 256 file c.at_most.result c.in_ok-counts.counts c.read.new.nodes c.read.new.cables given r c.at_most.ensures c.in_ok-counts.ensures.few (omega (arith, held.forwarding)) (c.in_ok-counts.ensures.answers (sized (goal.at.returns c).After-deref_mut-3)) (rw same.0 at c.in_ok-rack.ensures.0) (rw same.1 at c.in_ok-rack.ensures.1)
     in
-    record { reads = subst (Reads 128 256 file r counts.entries) (sym forwarding) read; room = c.in_ok-distances.ensures.0; exact = c.in_ok-distances.ensures.1 }
+    elim c.if-counts-gt0.branch [
+      | then-counts-gt0 w ↦ record {
+        entries = entries;
+        forwarding = given;
+        route = stored_route r given;
+        reads = read;
+        forwards = inl (omega (arith, w.if-counts-gt0.true), refl);
+        answers = λ b v. ap (λ t. stored_route r t b v) ((λ i. (w.forwarding-is i).items) ∙ found);
+      }
+      | else-counts-gt0+in_ok-forwarding w ↦ record {
+        entries = entries;
+        forwarding = given;
+        route = w.in_ok-forwarding.ensures.0;
+        reads = read;
+        forwards = inr (omega (arith, w.if-counts-gt0.false), w.in_ok-forwarding.ensures.1);
+        answers = λ b v. (λ i. stored_route r (w.forwarding-is i).items b v) ∙ w.in_ok-forwarding.ensures.2 b v;
+      }
+    ]
