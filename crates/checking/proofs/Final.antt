@@ -81,7 +81,7 @@ module _ (g : Routing) (levels : List ℕ) (lanes : ℕ) (before after : TablesA
   faulty p s NoMemory pair arrives low h = omega (arith, h.1)
 
   -- where all pairs are fine, nothing but a ring or want of memory stands against acceptance
-  fine_accepted : (r : Result Acceptance CheckFault) → Checked g levels lanes before after r → Starts g levels lanes before → AllFine g levels lanes → NoRing (IsFollowedBy g levels) → Accepted r
+  pub fine_accepted : (r : Result Acceptance CheckFault) → Checked g levels lanes before after r → Starts g levels lanes before → AllFine g levels lanes → NoRing (IsFollowedBy g levels) → Accepted r
   fine_accepted (Ok a) h s fine free = inl refl
   fine_accepted (Err (Ring n)) h s fine free = absurd (free _ n h.3.ring)
   fine_accepted (Err Memory) h s fine free = inr refl

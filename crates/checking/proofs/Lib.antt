@@ -5,4 +5,4 @@ mod Marking
 mod Pairing
 mod Exactness
 mod Rising
-mod Final
+pub mod Final

@@ -3,16 +3,19 @@
 
 use fabric::fabric::Fabric;
 use fabric::queue::Queue;
+use rack::numbers::Node;
+use rack::rack::Rack;
 use report::lines::refused_line;
-use report::refusal::{Refusal, tell};
+use report::refusal::{Told, tell};
 use routing::plan::Plan;
 use routing::rows::StoredRows;
 use routing::sizes::virtual_channels;
-use routing::stored::Stored;
-use std::alloc::{AllocError, AllocFailed, Global};
+use routing::source::ForwardingSource;
+use std::alloc::{AllocError, AllocFailed};
 use std::io::{BufRead, BufReader};
 use std::process::ExitCode;
 use std::{env, fs, io};
+use up_down::source::UpDown;
 use workbench::answer::answer;
 use workbench::arguments::{BuildTask, Task, USAGE};
 use workbench::built::build_text;
@@ -20,6 +23,7 @@ use workbench::checked::check_text;
 use workbench::dry::{Start, close, open_dry};
 use workbench::plan_file::{PlanFile, plan_in};
 use workbench::rack_file::RackFile;
+use workbench::reply::told_root;
 
 // Why the program stops short, with status 1.
 #[derive(Debug, Drop)]
@@ -55,9 +59,10 @@ fn named<T: Drop>(rt: &HostRuntime, path: &str, came: io::Result<T>) -> Result<T
     }
 }
 
-// The line of a refusal.
-fn refusal(heap: Global, refusal: Refusal) -> Result<String, AllocError> {
-    refused_line(heap, tell(refusal).ok_or(AllocError)?)
+// Prints the line of a refusal; where nothing is told, memory was wanting.
+fn print_refused(rt: &HostRuntime, told: Option<Told>) -> Result<(), Stop> {
+    rt.print(refused_line(rt.alloc(), told.ok_or(AllocError)?)?)?;
+    Ok(())
 }
 
 // Reads a rack file; none, and it is said why, if it is refused.
@@ -66,17 +71,19 @@ fn rack_at(rt: &HostRuntime, path: &str) -> Result<Option<RackFile>, Stop> {
     match RackFile::read(rt.alloc(), &file) {
         Ok(rack) => Ok(Some(rack)),
         Err(fault) => {
-            rt.print(refusal(rt.alloc(), fault)?)?;
+            print_refused(rt, tell(fault))?;
             Ok(None)
         }
     }
 }
 
-fn build(rt: &HostRuntime, task: BuildTask<'_>) -> Result<(), Stop> {
-    let Some(rack) = rack_at(rt, task.rack)? else {
-        return Ok(());
-    };
-    let built = build_text(rt.alloc(), &rack, task.lanes, task.two_hop)?;
+fn build<S: ForwardingSource>(
+    rt: &HostRuntime,
+    rack: &Rack,
+    source: &S,
+    task: BuildTask<'_>,
+) -> Result<(), Stop> {
+    let built = build_text(rt.alloc(), rack, source, task.lane_count(), task.layout())?;
     rt.print(built.text.as_str())?;
     if let (Some(path), Some(bytes)) = (task.out, built.file) {
         named(rt, path, fs::write(rt, path, bytes))?;
@@ -84,16 +91,21 @@ fn build(rt: &HostRuntime, task: BuildTask<'_>) -> Result<(), Stop> {
     Ok(())
 }
 
-fn check(rt: &HostRuntime, rack: &RackFile, plan: PlanFile<'_>) -> Result<(), Stop> {
-    let text = check_text(rt.alloc(), rack, plan)?;
+fn check<S: ForwardingSource>(
+    rt: &HostRuntime,
+    rack: &Rack,
+    source: &S,
+    plan: PlanFile<'_>,
+) -> Result<(), Stop> {
+    let text = check_text(rt.alloc(), rack, source, plan)?;
     rt.print(text)?;
     Ok(())
 }
 
 // Answers the lines of standard input until one asks to close, or there are no more.
-fn course(
+fn course<S: ForwardingSource>(
     rt: &HostRuntime,
-    plan: &Plan<'_, Stored<'_>, StoredRows<'_>>,
+    plan: &Plan<'_, S, StoredRows<'_>>,
     fabric: &Fabric,
     queues: &mut [Queue],
 ) -> Result<(), Stop> {
@@ -108,17 +120,23 @@ fn course(
     Ok(())
 }
 
-fn dry(rt: &HostRuntime, rack: &RackFile, file: PlanFile<'_>, depth: u8) -> Result<(), Stop> {
-    let mut queues = vec![in rt.alloc(); Queue::empty(); virtual_channels(&rack.rack)]?;
-    let fabric = match open_dry(rt.alloc(), rack, file, depth, &mut queues)? {
+fn dry<S: ForwardingSource>(
+    rt: &HostRuntime,
+    rack: &Rack,
+    source: &S,
+    file: PlanFile<'_>,
+    depth: u8,
+) -> Result<(), Stop> {
+    let mut queues = vec![in rt.alloc(); Queue::empty(); virtual_channels(rack)]?;
+    let fabric = match open_dry(rt.alloc(), rack, source, file, depth, &mut queues)? {
         Start::Open(fabric) => fabric,
         Start::Refused(text) => return Ok(rt.print(text)?),
     };
     let plan = Plan {
-        rack: &rack.rack,
-        source: &rack.source(),
+        rack,
+        source,
         map: &StoredRows {
-            rack: &rack.rack,
+            rack,
             lanes: file.lanes,
         },
         levels: file.levels,
@@ -129,24 +147,53 @@ fn dry(rt: &HostRuntime, rack: &RackFile, file: PlanFile<'_>, depth: u8) -> Resu
     Ok(())
 }
 
-// Reads a rack file and a plan file, and checks the plan, or tries it at a depth.
-fn planned(rt: &HostRuntime, rack: &str, plan: &str, depth: Option<u8>) -> Result<(), Stop> {
-    let Some(rack) = rack_at(rt, rack)? else {
-        return Ok(());
-    };
+// Reads a plan file, and checks the plan, or tries it at a depth.
+fn planned<S: ForwardingSource>(
+    rt: &HostRuntime,
+    rack: &Rack,
+    source: &S,
+    plan: &str,
+    depth: Option<u8>,
+) -> Result<(), Stop> {
     let bytes = named(rt, plan, fs::read(rt, plan))?;
-    match (plan_in(&rack.rack, &bytes), depth) {
-        (Ok(plan), None) => check(rt, &rack, plan),
-        (Ok(plan), Some(depth)) => dry(rt, &rack, plan, depth),
+    match (plan_in(rack, &bytes), depth) {
+        (Ok(plan), None) => check(rt, rack, source, plan),
+        (Ok(plan), Some(depth)) => dry(rt, rack, source, plan, depth),
         (Err(wrong), _) => Err(Stop::Said(format!(in rt.alloc(); "{plan}: {wrong}")?)),
     }
 }
 
-fn perform(rt: &HostRuntime, task: Task<'_>) -> Result<(), Stop> {
+// Performs a task on its rack, where packets go by the source.
+fn perform_by<S: ForwardingSource>(
+    rt: &HostRuntime,
+    rack: &Rack,
+    source: &S,
+    task: Task<'_>,
+) -> Result<(), Stop> {
     match task {
-        Task::Build(task) => build(rt, task),
-        Task::Check { rack, plan } => planned(rt, rack, plan, None),
-        Task::Dry { rack, plan, depth } => planned(rt, rack, plan, Some(depth)),
+        Task::Build(task) => build(rt, rack, source, task),
+        Task::Check { plan, .. } => planned(rt, rack, source, plan, None),
+        Task::Dry { plan, depth, .. } => planned(rt, rack, source, plan, Some(depth)),
+    }
+}
+
+// Reads the rack file of a task, and performs the task by the source that it asks for; if there is none, it is said why.
+fn perform(rt: &HostRuntime, task: Task<'_>) -> Result<(), Stop> {
+    let (path, root) = match task {
+        Task::Build(BuildTask { rack, root, .. })
+        | Task::Check { rack, root, .. }
+        | Task::Dry { rack, root, .. } => (rack, root),
+    };
+    let Some(file) = rack_at(rt, path)? else {
+        return Ok(());
+    };
+    let rack = &file.rack;
+    let Some(root) = root else {
+        return perform_by(rt, rack, &file.source(), task);
+    };
+    match UpDown::new(rt.alloc(), rack, Node(root)) {
+        Ok(source) => perform_by(rt, rack, &source, task),
+        Err(fault) => print_refused(rt, told_root(fault)),
     }
 }
 

@@ -12,6 +12,8 @@ mod levels;
 #[cfg(test)]
 mod line;
 #[cfg(test)]
+mod over_root;
+#[cfg(test)]
 mod plans;
 #[cfg(test)]
 mod racks;

@@ -4,7 +4,7 @@ pub mod Lanes
 pub mod Hops
 pub mod Walking
 mod Missing
-mod Columns
+pub mod Columns
 pub mod PairOrder
 mod Reaching
 mod Nearness

@@ -1,4 +1,4 @@
--- What the two forwarding sources assign. Assumes nothing.
+-- What the two forwarding sources over lent tables assign. Assumes nothing.
 use Rattle.std.specs.Prelude.{ℕ, zero, suc, ◌+◌, ◌-◌, ◌*◌, Bool, cond, not, ◌&&◌, List, Some, None, Option, ◌==◌, nat_lt, slice_index, slice_index_or}
 use Rattle.rack.specs.declared.numbers.Channel.{Channel}
 use Rattle.rack.specs.declared.rack.Rack.{Rack}

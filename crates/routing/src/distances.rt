@@ -1,4 +1,4 @@
-// The fewest channels from every node to every host, through switches only.
+// The fewest channels from every node to every host, or to one node, through switches only.
 ghost use Rattle.std.specs.Prelude.{◌≡◌, ℕ, ◌+◌, ◌*◌, ◌<◌, ◌≤◌, true, false, ◌⊎◌, length, drop, is_ok, Decides};
 ghost use Rattle.rack.specs.Racks.{node_count, channel_count, Switch};
 ghost use Rattle.routing.specs.Ways.{Distances, Fewest, far, Beside, Reached, Spread};
@@ -15,20 +15,20 @@ pub const NO_WAY: u8 = 255;
 // The column of a node in the distance table: the places of the distances to it.
 // The table itself is lent by each call: in here, each method would have to say that it is still the same table, and that all else stays. So that it has room is a clause there.
 #[derive(Clone, Copy)]
-struct Column<'a> {
-    rack: &'a Rack,
-    host: Node,
-    ghost within: { host.0 < node_count rack.now },
+pub struct Column<'a> {
+    pub rack: &'a Rack,
+    pub target: Node,
+    ghost within: { target.0 < node_count rack.now },
 }
 
 impl Column<'_> {
     // The place of the distance from a node.
     fn place(&self, node: Node) -> usize
-        ensures { result ≡ node_count self.now.rack.now * node.0 + self.now.host.0 }
+        ensures { result ≡ node_count self.now.rack.now * node.0 + self.now.target.0 }
     {
         let pair = Pair {
             sender: node,
-            receiver: self.host,
+            receiver: self.target,
         };
         pair.place(self.rack)
     }
@@ -37,7 +37,7 @@ impl Column<'_> {
     fn reach(&self, distances: &mut [u8], node: Node, distance: u8) -> bool
         requires room { node_count self.now.rack.now * node_count self.now.rack.now ≤ length distances.old }
         requires small { distance < 255 }
-        ensures { Reached self.now.rack.now self.now.host.0 node.0 distance (channel_count self.now.rack.now) distances.old distances.new result }
+        ensures { Reached self.now.rack.now self.now.target.0 node.0 distance (channel_count self.now.rack.now) distances.old distances.new result }
     {
         let mut found = false;
         for channel in self.rack.leaving(node) {
@@ -53,18 +53,18 @@ impl Column<'_> {
         found
     }
 
-    // Whether a way to the host may go on from the node: it is the host itself or a switch.
+    // Whether a way to the target may go on from the node: it is the target itself or a switch.
     fn lets_through(&self, node: Node) -> bool
-        ensures { Decides result ((node.0 ≡ self.now.host.0) ⊎ Switch self.now.rack.now node.0) }
+        ensures { Decides result ((node.0 ≡ self.now.target.0) ⊎ Switch self.now.rack.now node.0) }
     {
-        node == self.host || self.rack.is_switch(node)
+        node == self.target || self.rack.is_switch(node)
     }
 
-    // One round: whatever has a channel to a node at that distance, the host itself or a switch, is one farther, if it has no way yet.
+    // One round: whatever has a channel to a node at that distance, the target itself or a switch, is one farther, if it has no way yet.
     fn spread(&self, distances: &mut [u8], distance: u8) -> bool
         requires room { node_count self.now.rack.now * node_count self.now.rack.now ≤ length distances.old }
         requires small { distance < 128 }
-        ensures { Spread self.now.rack.now self.now.host.0 distance (node_count self.now.rack.now) distances.old distances.new result }
+        ensures { Spread self.now.rack.now self.now.target.0 distance (node_count self.now.rack.now) distances.old distances.new result }
     {
         let mut found = false;
         for node in (0..self.rack.node_count() as u16).map(Node) {
@@ -75,14 +75,14 @@ impl Column<'_> {
         found
     }
 
-    // The distances to the host, where the column holds no way yet.
-    fn fill(&self, distances: &mut [u8])
+    // Fills the column, which holds no way yet, with the distances to the target.
+    pub fn fill(&self, distances: &mut [u8])
         requires room { node_count self.now.rack.now * node_count self.now.rack.now ≤ length distances.old }
-        requires blank { (w : ℕ) → w < node_count self.now.rack.now → far (node_count self.now.rack.now) self.now.host.0 distances.old w ≡ 255 }
-        ensures column { (w : ℕ) → w < node_count self.now.rack.now → Fewest self.now.rack.now self.now.host.0 w (far (node_count self.now.rack.now) self.now.host.0 distances.new w) }
-        ensures beside { Beside (node_count self.now.rack.now) self.now.host.0 distances.old distances.new }
+        requires blank { (w : ℕ) → w < node_count self.now.rack.now → far (node_count self.now.rack.now) self.now.target.0 distances.old w ≡ 255 }
+        ensures column { (w : ℕ) → w < node_count self.now.rack.now → Fewest self.now.rack.now self.now.target.0 w (far (node_count self.now.rack.now) self.now.target.0 distances.new w) }
+        ensures beside { Beside (node_count self.now.rack.now) self.now.target.0 distances.old distances.new }
     {
-        distances[self.place(self.host)] = 0;
+        distances[self.place(self.target)] = 0;
         for distance in 0..self.rack.node_count() as u8 {
             if !self.spread(distances, distance) {
                 return;
@@ -104,7 +104,7 @@ pub fn fill_distances(rack: &Rack, distances: &mut [u8]) -> Result<(), DistanceF
     distances[..places].fill(NO_WAY);
     for host in (0..rack.node_count() as u16).map(Node) {
         if rack.is_host(host) {
-            Column { rack, host }.fill(distances);
+            Column { rack, target: host }.fill(distances);
         }
     }
     Ok(())

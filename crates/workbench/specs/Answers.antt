@@ -9,18 +9,11 @@ use Rattle.checking.specs.declared.acceptance.Acceptance.{Acceptance}
 use Rattle.checking.specs.declared.fault.CheckFault.{CheckFault}
 use Rattle.checking.specs.declared.fault.CheckFault.TheVariants.{Ring}
 use Rattle.checking.specs.Answers.{TablesAt, Checked}
-use Rattle.planning.specs.Plans.{planned}
 use Rattle.report.specs.declared.refusal.Refusal.TheVariants.{Check}
 use Rattle.report.specs.declared.refusal.Told.{Told}
 use Rattle.report.specs.Refusals.{told}
 use Rattle.report.specs.Text.{accepted_line, refused_line}
-use Rattle.workbench.specs.declared.rack_file.RackFile.{RackFile}
-use Rattle.workbench.specs.RackFiles.{file_route}
 use Rattle.workbench.specs.Rings.{ring_line}
-
--- the routing by a lane table, on the rack of a file and by its forwarding
-abbrev pub file_plan : RackFile → List ℕ → Routing
-file_plan f lanes = planned f.rack (file_route f) lanes
 
 -- the lines of the ring that a refusal shows
 abbrev pub shown_ring : Rack → List ℕ → CheckFault → List ℕ

@@ -2,15 +2,10 @@
 use Rattle.std.specs.Prelude.{◌≡◌, ℕ, zero, suc, ◌*◌, ◌⊎◌, List, [], ◌∷◌, ◌++◌, length, take, Some, None, Option, Ok, Err, MatchOption, sum_by, codes, decimal, string_bytes, String}
 use Rattle.rack.specs.declared.rack.Rack.{Rack}
 use Rattle.rack.specs.Racks.{channel_count}
-use Rattle.routing.specs.declared.plan.Plan.{Plan}
-use Rattle.routing.specs.declared.rows.StoredRows.{StoredRows}
-use Rattle.routing.specs.declared.stored.Stored.{Stored}
-use Rattle.routing.specs.Sources.{stored_route}
-use Rattle.routing.specs.Turns.{stored_lane}
 use Rattle.courses.specs.Queues.{Queues, at}
 use Rattle.fabric.specs.declared.packet.Packet.{Packet}
 use Rattle.fabric.specs.declared.call.Call.{Call as Calling}
-use Rattle.fabric.specs.Calls.{Setup, setup_of, Answer, Acts}
+use Rattle.fabric.specs.Calls.{Setup, Answer, Acts}
 use Rattle.report.specs.declared.refusal.Told.{Told}
 use Rattle.workbench.specs.declared.reply.Reply.{Reply}
 use Rattle.workbench.specs.declared.reply.Reply.TheVariants.{Done, Refused, Unknown}
@@ -46,10 +41,6 @@ waiting_in qs = (codes "ok " ++ decimal (sum_by length qs)) ++ (queues_text qs (
 -- the same of all queues of a rack
 abbrev pub waiting_text : Rack → Queues Packet → List ℕ
 waiting_text r qs = waiting_in (take (8 * channel_count r) qs)
-
--- what calls go by, under the plan of a plan file
-abbrev pub dry_setup : Plan Stored StoredRows → ℕ → Setup
-dry_setup plan depth = setup_of (λ s. stored_route s.rack.now s.forwarding.now) (λ m. stored_lane m.rack.now m.lanes.now) plan depth
 
 -- what is answered to what a line asks for, and what becomes of the packets
 abbrev pub Answered : Setup → Queues Packet → ℕ → Option Request → List ℕ → Queues Packet → Type 0

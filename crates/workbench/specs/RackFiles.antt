@@ -36,6 +36,6 @@ Unread file g =
     ⊎ ((fault : FileFault) × (limits : Limits) × (nodes : List ℕ) × (cables : List Cable) × (forwarding : List ℕ) × (g ≡ File fault) × LetsIn 128 256 limits
     × Answers limits file (Err fault) nodes cables forwarding)
 
--- where packets go: by the table
+-- where packets go if no root is named: by the table
 abbrev pub file_route : RackFile → ℕ → ℕ → Option ℕ
 file_route f = stored_route f.rack f.forwarding.items

@@ -7,7 +7,9 @@ use Rattle.fabric.specs.declared.fault.FabricFault.{FabricFault}
 use Rattle.fabric.specs.Faults.{fabric_refusal}
 use Rattle.report.specs.declared.refusal.Told.{Told}
 use Rattle.report.specs.Text.{ending, refused_line}
-use Rattle.report.specs.Refusals.{of_pair, of_walk}
+use Rattle.report.specs.Refusals.{of_file, of_pair, of_walk}
+use Rattle.up_down.specs.declared.fault.UpDownFault.{UpDownFault}
+use Rattle.up_down.specs.Faults.{up_down_refusal}
 use Rattle.workbench.specs.declared.reply.Reply.{Reply}
 use Rattle.workbench.specs.declared.reply.Reply.TheVariants.{Done, Refused, Closed, Unknown}
 
@@ -33,3 +35,7 @@ told_by None p k (Some f) = of_walk f
 -- what is told of a fault of the fabric
 abbrev pub told_of : FabricFault → Option Told
 told_of f = told_by (fabric_refusal f).number (fabric_refusal f).about (fabric_refusal f).hop (fabric_refusal f).walk
+
+-- what is told where no up-down source is made: its number, and the node that it is about in the place of the sender
+abbrev pub told_root : UpDownFault → Option Told
+told_root f = of_file (up_down_refusal f).number (up_down_refusal f).about

@@ -1,6 +1,7 @@
 // The answers to the lines of a course of calls on a dry fabric.
 ghost use Rattle.std.specs.Prelude.{◌≡◌, ◌≤◌, ◌++◌, length, sum_by, OnOk, IfOk, OnErr, string_bytes};
-ghost use Rattle.workbench.specs.Courses.{replies, queue_text, queues_text, waiting_text, Answers, AnswersLine, KeptOrCalled, dry_setup};
+ghost use Rattle.fabric.specs.Calls.{setup_of};
+ghost use Rattle.workbench.specs.Courses.{replies, queue_text, queues_text, waiting_text, Answers, AnswersLine, KeptOrCalled};
 
 use crate::reply::{Reply, told_of};
 use crate::request::Request;
@@ -9,10 +10,10 @@ use fabric::fabric::Fabric;
 use fabric::fault::FabricFault;
 use fabric::queue::Queue;
 use rack::rack::Rack;
+use routing::map::LaneMap;
 use routing::plan::Plan;
-use routing::rows::StoredRows;
 use routing::sizes::virtual_channels;
-use routing::stored::Stored;
+use routing::source::ForwardingSource;
 use std::alloc::{AllocError, Global};
 
 // The line that answers a call.
@@ -71,16 +72,16 @@ fn waiting_line(heap: Global, rack: &Rack, queues: &[Queue]) -> Result<String, A
 }
 
 // The answer to what a line asks for; none where it asks to close.
-fn answer_to(
+fn answer_to<S: ForwardingSource, M: LaneMap>(
     heap: Global,
-    plan: &Plan<'_, Stored<'_>, StoredRows<'_>>,
+    plan: &Plan<'_, S, M>,
     fabric: &Fabric,
     queues: &mut [Queue],
     number: usize,
     request: Option<Request>,
 ) -> Result<Option<String>, AllocError>
-    ensures says { IfOk result (λ a. Answers (dry_setup plan.now fabric.now.depth) queues.old number request a queues.new) }
-    ensures wanting { OnErr result (KeptOrCalled (dry_setup plan.now fabric.now.depth) queues.old queues.new) }
+    ensures says { IfOk result (λ a. Answers (setup_of S.route M.lanes plan.now fabric.now.depth) queues.old number request a queues.new) }
+    ensures wanting { OnErr result (KeptOrCalled (setup_of S.route M.lanes plan.now fabric.now.depth) queues.old queues.new) }
 {
     match request {
         Some(Request::Close) => Ok(None),
@@ -95,16 +96,16 @@ fn answer_to(
 
 // The answer to one line of a course, whose number is told where it asks for nothing; none where it asks to close.
 // If there is no memory for the answer, the call may have been made, and else nothing changed.
-pub fn answer(
+pub fn answer<S: ForwardingSource, M: LaneMap>(
     heap: Global,
-    plan: &Plan<'_, Stored<'_>, StoredRows<'_>>,
+    plan: &Plan<'_, S, M>,
     fabric: &Fabric,
     queues: &mut [Queue],
     number: usize,
     line: &[u8],
 ) -> Result<Option<String>, AllocError>
-    ensures says { IfOk result (λ a. AnswersLine (dry_setup plan.now fabric.now.depth) queues.old number line.now a queues.new) }
-    ensures wanting { OnErr result (KeptOrCalled (dry_setup plan.now fabric.now.depth) queues.old queues.new) }
+    ensures says { IfOk result (λ a. AnswersLine (setup_of S.route M.lanes plan.now fabric.now.depth) queues.old number line.now a queues.new) }
+    ensures wanting { OnErr result (KeptOrCalled (setup_of S.route M.lanes plan.now fabric.now.depth) queues.old queues.new) }
 {
     let request = Request::of_bytes(heap, line)?;
     answer_to(heap, plan, fabric, queues, number, request)

@@ -1,26 +1,23 @@
-// A plan that is built for a rack file, and what is said of it.
-ghost use Rattle.std.specs.Prelude.{◌≤◌, length, IfOk};
-ghost use Rattle.rack.specs.Racks.{channel_count};
-ghost use Rattle.routing.specs.Turns.{lane_bytes};
-ghost use Rattle.builder.specs.Method.{tables};
+// A plan that is built for a rack, and what is said of it.
+ghost use Rattle.std.specs.Prelude.{IfOk};
 ghost use Rattle.workbench.specs.PlanFiles.{Fits};
 ghost use Rattle.checking.specs.Plans.{AllFine};
 ghost use Rattle.checking.specs.Answers.{tables_at};
-ghost use Rattle.workbench.specs.Answers.{file_plan, Roomy};
-ghost use Rattle.workbench.specs.Builds.{LaidOut, AcceptedSays, BuildSays};
+ghost use Rattle.planning.specs.Plans.{planned};
+ghost use Rattle.workbench.specs.Answers.{Roomy};
+ghost use Rattle.workbench.specs.Builds.{AcceptedSays, BuildSays};
 
 use crate::checked::{check_plan, refusal_text};
+use crate::layout::{Layout, lay_out};
 use crate::plan_file::PlanFile;
-use crate::rack_file::RackFile;
 use crate::summary::Summary;
-use crate::two_hop::fill_two_hop;
-use builder::build::build;
-use builder::fault::BuildFault;
+use rack::rack::Rack;
 use report::lines::{accepted_line, refused_line};
 use report::refusal::{Refusal, tell};
 use report::tables::PlanTables;
 use routing::plan::Plan;
 use routing::rows::StoredRows;
+use routing::source::ForwardingSource;
 use std::alloc::{AllocError, Global};
 
 // What is said of a plan that was to be built, and its plan file if it is accepted.
@@ -30,42 +27,23 @@ pub struct Built {
     pub file: Option<Vec<u8>>,
 }
 
-// Fills the tables of a plan: by the builder, or with the two-hop map, at level 0 for all pairs.
-fn lay_out(
-    heap: Global,
-    rack: &RackFile,
-    lane_count: u8,
-    two_hop: bool,
-    lanes: &mut [u8],
-    levels: &mut [u8],
-) -> Result<(), BuildFault>
-    requires { lane_bytes (channel_count rack.now.rack) ≤ length lanes.old }
-    ensures { LaidOut rack.now lane_count two_hop (tables lanes.old levels.old) (tables lanes.new levels.new) result }
-{
-    if two_hop {
-        fill_two_hop(&rack.rack, lanes);
-        levels.fill(0);
-        return Ok(());
-    }
-    build(heap, &rack.rack, &rack.source(), lane_count, lanes, levels)
-}
-
 // An accepted plan: its greatest rank, its summary and its file.
-fn accepted(
+fn accepted<S: ForwardingSource>(
     heap: Global,
-    rack: &RackFile,
+    rack: &Rack,
+    source: &S,
     plan: PlanFile<'_>,
     greatest: u16,
 ) -> Result<Built, AllocError>
-    requires fits { Fits rack.now.rack plan.lanes.now plan.levels.now }
-    requires fine { AllFine (file_plan rack.now plan.lanes.now) plan.levels.now plan.lane_count }
-    ensures { IfOk result (AcceptedSays rack.now plan.entry.lane_count plan.entry.lanes.now plan.entry.levels.now greatest) }
+    requires fits { Fits rack.now plan.lanes.now plan.levels.now }
+    requires fine { AllFine (planned rack.now (S.route source.now) plan.lanes.now) plan.levels.now plan.lane_count }
+    ensures { IfOk result (AcceptedSays rack.now (S.route source.now) plan.entry.lane_count plan.entry.lanes.now plan.entry.levels.now greatest) }
 {
     let made = Plan {
-        rack: &rack.rack,
-        source: &rack.source(),
+        rack,
+        source,
         map: &StoredRows {
-            rack: &rack.rack,
+            rack,
             lanes: plan.lanes,
         },
         levels: plan.levels,
@@ -90,22 +68,23 @@ fn accepted(
 }
 
 // Builds a plan in these tables, and checks it.
-fn build_in(
+fn build_in<S: ForwardingSource>(
     heap: Global,
-    rack: &RackFile,
+    rack: &Rack,
+    source: &S,
     lane_count: u8,
-    two_hop: bool,
+    layout: Layout,
     lanes: &mut [u8],
     levels: &mut [u8],
     dependencies: &mut [u64],
     ranks: &mut [u16],
     ring: &mut [u16],
 ) -> Result<Built, AllocError>
-    requires fits { Fits rack.now.rack lanes.old levels.old }
-    requires room { Roomy rack.now.rack (tables_at dependencies.old ranks.old ring.old) }
-    ensures { IfOk result (BuildSays rack.now lane_count two_hop) }
+    requires fits { Fits rack.now lanes.old levels.old }
+    requires room { Roomy rack.now (tables_at dependencies.old ranks.old ring.old) }
+    ensures { IfOk result (BuildSays rack.now (S.route source.now) lane_count layout) }
 {
-    if let Err(fault) = lay_out(heap, rack, lane_count, two_hop, lanes, levels) {
+    if let Err(fault) = lay_out(heap, rack, source, lane_count, layout, lanes, levels) {
         let told = tell(Refusal::Build(fault)).ok_or(AllocError)?;
         let text = refused_line(heap, told)?;
         return Ok(Built { text, file: None });
@@ -115,30 +94,32 @@ fn build_in(
         lanes,
         levels,
     };
-    match check_plan(heap, rack, plan, dependencies, ranks, ring) {
-        Ok(acceptance) => accepted(heap, rack, plan, acceptance.greatest_rank()),
+    match check_plan(heap, rack, source, plan, dependencies, ranks, ring) {
+        Ok(acceptance) => accepted(heap, rack, source, plan, acceptance.greatest_rank()),
         Err(fault) => {
-            let text = refusal_text(heap, &rack.rack, fault, ring)?;
+            let text = refusal_text(heap, rack, fault, ring)?;
             Ok(Built { text, file: None })
         }
     }
 }
 
-// Builds a plan for a rack file with so many lanes, by the builder or with the two-hop map, and checks it.
-pub fn build_text(
+// Builds a plan for a rack and a source with so many lanes, as the layout says, and checks it.
+pub fn build_text<S: ForwardingSource>(
     heap: Global,
-    rack: &RackFile,
+    rack: &Rack,
+    source: &S,
     lane_count: u8,
-    two_hop: bool,
+    layout: Layout,
 ) -> Result<Built, AllocError>
-    ensures { IfOk result (BuildSays rack.now lane_count two_hop) }
+    ensures { IfOk result (BuildSays rack.now (S.route source.now) lane_count layout) }
 {
-    let mut tables = PlanTables::new(heap, &rack.rack)?;
+    let mut tables = PlanTables::new(heap, rack)?;
     build_in(
         heap,
         rack,
+        source,
         lane_count,
-        two_hop,
+        layout,
         &mut tables.lanes,
         &mut tables.levels,
         &mut tables.dependencies,

@@ -1,10 +1,10 @@
 // The check of a plan file, and what is said of it.
 ghost use Rattle.std.specs.Prelude.{IfOk, string_bytes};
 ghost use Rattle.checking.specs.Answers.{tables_at, Checked};
-ghost use Rattle.workbench.specs.Answers.{file_plan, RefusedText, CheckText};
+ghost use Rattle.planning.specs.Plans.{planned};
+ghost use Rattle.workbench.specs.Answers.{RefusedText, CheckText};
 
 use crate::plan_file::PlanFile;
-use crate::rack_file::RackFile;
 use crate::ring::with_ring;
 use checking::acceptance::Acceptance;
 use checking::check::check;
@@ -15,27 +15,28 @@ use report::refusal::{Refusal, tell};
 use report::tables::PlanTables;
 use routing::plan::Plan;
 use routing::rows::StoredRows;
+use routing::source::ForwardingSource;
 use std::alloc::{AllocError, Global};
 
-// Checks the plan of a plan file on a rack.
-pub fn check_plan(
+// Checks the plan of a plan file on a rack and by a source.
+pub fn check_plan<S: ForwardingSource>(
     heap: Global,
-    rack: &RackFile,
+    rack: &Rack,
+    source: &S,
     plan: PlanFile<'_>,
     dependencies: &mut [u64],
     ranks: &mut [u16],
     ring: &mut [u16],
 ) -> Result<Acceptance, CheckFault>
-    ensures { Checked (file_plan rack.now plan.entry.lanes.now) plan.entry.levels.now plan.entry.lane_count (tables_at dependencies.old ranks.old ring.old) (tables_at dependencies.new ranks.new ring.new) result }
+    ensures { Checked (planned rack.now (S.route source.now) plan.entry.lanes.now) plan.entry.levels.now plan.entry.lane_count (tables_at dependencies.old ranks.old ring.old) (tables_at dependencies.new ranks.new ring.new) result }
 {
-    let source = rack.source();
     let map = StoredRows {
-        rack: &rack.rack,
+        rack,
         lanes: plan.lanes,
     };
     let plan = Plan {
-        rack: &rack.rack,
-        source: &source,
+        rack,
+        source,
         map: &map,
         levels: plan.levels,
         lanes: plan.lane_count,
@@ -64,13 +65,19 @@ pub fn refusal_text(
 }
 
 // What is said of the plan of a plan file: that it is accepted, or why it is refused.
-pub fn check_text(heap: Global, rack: &RackFile, plan: PlanFile<'_>) -> Result<String, AllocError>
-    ensures { IfOk result (λ s. CheckText (file_plan rack.now plan.entry.lanes.now) plan.entry.levels.now plan.entry.lane_count (string_bytes s)) }
+pub fn check_text<S: ForwardingSource>(
+    heap: Global,
+    rack: &Rack,
+    source: &S,
+    plan: PlanFile<'_>,
+) -> Result<String, AllocError>
+    ensures { IfOk result (λ s. CheckText (planned rack.now (S.route source.now) plan.entry.lanes.now) plan.entry.levels.now plan.entry.lane_count (string_bytes s)) }
 {
-    let mut tables = PlanTables::new(heap, &rack.rack)?;
+    let mut tables = PlanTables::new(heap, rack)?;
     let answer = check_plan(
         heap,
         rack,
+        source,
         plan,
         &mut tables.dependencies,
         &mut tables.ranks,
@@ -78,6 +85,6 @@ pub fn check_text(heap: Global, rack: &RackFile, plan: PlanFile<'_>) -> Result<S
     );
     match answer {
         Ok(acceptance) => accepted_line(heap, acceptance.greatest_rank()),
-        Err(fault) => refusal_text(heap, &rack.rack, fault, &tables.ring),
+        Err(fault) => refusal_text(heap, rack, fault, &tables.ring),
     }
 }

@@ -4,14 +4,15 @@ ghost use Rattle.workbench.specs.Starts.{OpenSays, StartSays, CloseSays};
 
 use crate::checked::{check_plan, refusal_text};
 use crate::plan_file::PlanFile;
-use crate::rack_file::RackFile;
 use crate::reply::{Reply, told_of};
 use checking::acceptance::Acceptance;
 use fabric::fabric::Fabric;
 use fabric::fabric::open::open;
 use fabric::queue::Queue;
+use rack::rack::Rack;
 use report::tables::PlanTables;
 use routing::plan::Plan;
+use routing::source::ForwardingSource;
 use std::alloc::{AllocError, Global};
 
 // An open fabric; or what is said where there is none.
@@ -24,18 +25,18 @@ pub enum Start {
 // Opens a fabric under a plan that was accepted.
 fn open_accepted(
     heap: Global,
-    rack: &RackFile,
+    rack: &Rack,
     plan: PlanFile<'_>,
     acceptance: Acceptance,
     depth: u8,
     queues: &mut [Queue],
 ) -> Result<Start, AllocError>
-    ensures says { IfOk result (OpenSays rack.now.rack plan.entry.levels.now plan.entry.lane_count depth queues.old queues.new) }
+    ensures says { IfOk result (OpenSays rack.now plan.entry.levels.now plan.entry.lane_count depth queues.old queues.new) }
     ensures kept { OnErr result (queues.new ≡ queues.old) }
 {
     // opening asks for no source and no map
     let plan = Plan {
-        rack: &rack.rack,
+        rack,
         source: &(),
         map: &(),
         levels: plan.levels,
@@ -50,21 +51,23 @@ fn open_accepted(
     }
 }
 
-// Checks the plan of a plan file, and opens a fabric under it whose queues hold so many packets each.
-pub fn open_dry(
+// Checks the plan of a plan file by a source, and opens a fabric under it whose queues hold so many packets each.
+pub fn open_dry<S: ForwardingSource>(
     heap: Global,
-    rack: &RackFile,
+    rack: &Rack,
+    source: &S,
     plan: PlanFile<'_>,
     depth: u8,
     queues: &mut [Queue],
 ) -> Result<Start, AllocError>
-    ensures says { IfOk result (StartSays rack.now plan.entry.lanes.now plan.entry.levels.now plan.entry.lane_count depth queues.old queues.new) }
+    ensures says { IfOk result (StartSays rack.now (S.route source.now) plan.entry.lanes.now plan.entry.levels.now plan.entry.lane_count depth queues.old queues.new) }
     ensures kept { OnErr result (queues.new ≡ queues.old) }
 {
-    let mut tables = PlanTables::new(heap, &rack.rack)?;
+    let mut tables = PlanTables::new(heap, rack)?;
     let answer = check_plan(
         heap,
         rack,
+        source,
         plan,
         &mut tables.dependencies,
         &mut tables.ranks,
@@ -73,7 +76,7 @@ pub fn open_dry(
     match answer {
         Ok(acceptance) => open_accepted(heap, rack, plan, acceptance, depth, queues),
         Err(fault) => {
-            let text = refusal_text(heap, &rack.rack, fault, &tables.ring)?;
+            let text = refusal_text(heap, rack, fault, &tables.ring)?;
             Ok(Start::Refused(text))
         }
     }

@@ -8,6 +8,7 @@ pub mod checked;
 pub mod dry;
 mod forwarding;
 pub mod laws;
+pub mod layout;
 pub mod plan_file;
 pub mod rack_file;
 pub mod reply;

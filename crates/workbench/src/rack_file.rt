@@ -1,4 +1,4 @@
-// A rack as its file tells it, with the source that its packets go by.
+// A rack as its file tells it, with the source that its packets go by where no root is named.
 ghost use Rattle.std.specs.Prelude.{◌≡◌, MatchResult};
 ghost use Rattle.routing.specs.Sources.{stored_route};
 
@@ -11,7 +11,7 @@ use report::tables::FileTables;
 use routing::stored::Stored;
 use std::alloc::Global;
 
-// A rack with the forwarding table that its packets go by.
+// A rack with the forwarding table that its packets go by where no root is named.
 #[derive(Drop)]
 pub struct RackFile {
     pub rack: Rack,
@@ -44,7 +44,7 @@ impl RackFile {
         Ok(RackFile { rack, forwarding })
     }
 
-    // The source that its packets go by.
+    // The source that its packets go by where no root is named.
     pub fn source(&self) -> Stored<'_>
         ensures { stored_route result.rack.now result.forwarding.now ≡ file_route self.now }
     {

@@ -1,6 +1,6 @@
 // The lines that answer a course of calls.
 ghost use Rattle.std.specs.Prelude.{◌≡◌, Some};
-ghost use Rattle.workbench.specs.Replies.{told_of};
+ghost use Rattle.workbench.specs.Replies.{told_of, told_root};
 
 use checking::fault::CheckFault;
 use fabric::call::Done;
@@ -8,6 +8,7 @@ use fabric::fault::FabricFault;
 use fabric::packet::Delivery;
 use report::refusal::{Refusal, Told, tell};
 use std::fmt;
+use up_down::fault::UpDownFault;
 
 #[derive(Clone, Copy)]
 pub enum Reply {
@@ -72,4 +73,16 @@ pub fn told_of(fault: FabricFault) -> Option<Told>
         (None, _, Some(fault)) => tell(Refusal::Check(CheckFault::Walk(fault))),
         (None, _, None) => None,
     }
+}
+
+// What is told where no up-down source is made: the number and the node that it is about.
+pub fn told_root(fault: UpDownFault) -> Option<Told>
+    ensures { result ≡ told_root fault }
+{
+    Some(Told {
+        number: fault.number()?,
+        sender: fault.record(),
+        receiver: 0,
+        hop: 0,
+    })
 }

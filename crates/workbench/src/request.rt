@@ -2,7 +2,7 @@
 ghost use Rattle.std.specs.Prelude.{ℕ, MatchOption, IfOk};
 ghost use Rattle.workbench.specs.Words.{Writes};
 
-use crate::words::words;
+use crate::words::{short, words};
 use fabric::call::Call;
 use fabric::packet::VirtualChannel;
 use routing::pair::Pair;
@@ -14,13 +14,6 @@ pub enum Request {
     // how many packets wait, and where
     Waiting,
     Close,
-}
-
-// The number below 65,536 that a word writes.
-fn short(word: &str) -> Option<u16>
-    ensures { MatchOption result ((n : ℕ) → Writes 16 word.now n → ⊥) (Writes 16 word.now) }
-{
-    word.parse().ok()
 }
 
 // The number below 2^32 that a word writes.

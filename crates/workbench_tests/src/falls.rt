@@ -19,7 +19,7 @@ fn a_fall_closes_a_ring(rt: HostRuntime) -> Result<(), Fail> {
         lanes: &lanes,
         levels: &levels,
     };
-    let text = check_text(heap, &rack, plan)?;
+    let text = check_text(heap, &rack.rack, &rack.source(), plan)?;
     let shown = "refused 25 0 0 0
 channel 8 lane 0 from node 4 port 2 to node 5 port 3
 channel 10 lane 1 from node 5 port 2 to node 6 port 3

@@ -2,6 +2,7 @@
 use crate::bench::ring;
 use std::test::*;
 use workbench::built::{Built, build_text};
+use workbench::layout::Layout;
 use workbench::plan_file::{PlanLength, file_length, plan_in};
 
 // What is written reads back, byte for byte.
@@ -9,7 +10,7 @@ use workbench::plan_file::{PlanLength, file_length, plan_in};
 fn written_reads_back(rt: HostRuntime) -> Result<(), Fail> {
     let heap = rt.alloc();
     let rack = ring(heap, 3, true)?;
-    let Built { text: _, file } = build_text(heap, &rack, 2, false)?;
+    let Built { text: _, file } = build_text(heap, &rack.rack, &rack.source(), 2, Layout::Method)?;
     let Some(file) = file else {
         return Err(Fail::new("no plan file"));
     };

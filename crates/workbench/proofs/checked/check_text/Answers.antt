@@ -5,7 +5,7 @@ use Rattle.report.proofs.Outcomes.{written}
 use Rattle.workbench.proofs.checked.check_text.Goals as goal
 
 pub returns : goal.returns
-returns c =
+returns g c =
     let after = c.check_plan-answer.new in
     let ring : c.deref.result.now ≡ after.ring = written c.in_ok-tables.tables.ring.items c.deref.ensures.value (omega (arith, c.check_plan-answer.auto.ring)) in
     IfOk-weaker c.refusal_text.result _ _
@@ -13,7 +13,7 @@ returns c =
       before = tables_at c.deref_mut.result.now c.deref_mut-2.result.now c.deref_mut-3.result.now;
       after = tables_at after.dependencies after.ranks after.ring;
       answer = Err c.in-Err.fault;
-      room = (omega (arith, c.in_ok-tables.ensures.long.1, c.deref_mut.auto), omega (arith, c.in_ok-tables.ensures.long.2), omega (arith, c.in_ok-tables.ensures.long.3));
+      room = (omega (arith, c.in_ok-tables.ensures.long.1), omega (arith, c.in_ok-tables.ensures.long.2), omega (arith, c.in_ok-tables.ensures.long.3));
       checked = c.in-Err.ensures;
       said = rw ring at told;
     })

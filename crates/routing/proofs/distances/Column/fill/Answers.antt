@@ -6,7 +6,7 @@ use Rattle.routing.proofs.distances.Column.fill.Goals as goal
 pub loop-distance-init : goal.loop-distance-init
 loop-distance-init c =
     let column = c.args.self.now in (
-      rw c.place.ensures (settled_start column.rack.now column.host.0 c.args.distances.now column.within c.requires.room c.requires.blank),
+      rw c.place.ensures (settled_start column.rack.now column.target.0 c.args.distances.now column.within c.requires.room c.requires.blank),
       rw c.place.ensures (beside_set _ _ _ _ _ column.within),
     )
 

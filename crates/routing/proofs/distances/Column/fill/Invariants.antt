@@ -5,4 +5,4 @@ use Rattle.routing.proofs.distances.Column.fill.Given as goal
 
 abbrev pub invariant-loop-distance : goal.invariant-loop-distance
 invariant-loop-distance l =
-    Settled l.self.rack.now l.self.host.0 l.distance l.distances × Beside (node_count l.self.rack.now) l.self.host.0 l.fn.distances l.distances
+    Settled l.self.rack.now l.self.target.0 l.distance l.distances × Beside (node_count l.self.rack.now) l.self.target.0 l.fn.distances l.distances

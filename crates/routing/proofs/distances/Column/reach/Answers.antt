@@ -8,7 +8,7 @@ use Rattle.routing.proofs.distances.Column.reach.Goals.{in-Some+then-distances-p
 pub bounds-distances-place : goal.bounds-distances-place
 bounds-distances-place c =
     let column = c.args.self.now in
-    let is = head_place column.rack.now column.host.0 _ _ _ c.place-place.ensures c.in-Some.ensures.2 in
+    let is = head_place column.rack.now column.target.0 _ _ _ c.place-place.ensures c.in-Some.ensures.2 in
     let below = pair_below _ _ _ (head_below column.rack.now _ c.in-Some.ensures.0) column.within in
     omega (arith, is, below)
 
@@ -20,7 +20,7 @@ pub loop-channel-preserved : goal.loop-channel-preserved
 loop-channel-preserved c =
     let column = c.args.self.now in
     let r = column.rack.now in
-    let v = column.host.0 in
+    let v = column.target.0 in
     let list = c.leaving-channel-items.result.now in
     let leavers = c.leaving-channel-items.ensures in
     let k = c.loop-channel.channel-index in

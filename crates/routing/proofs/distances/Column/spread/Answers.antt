@@ -21,7 +21,7 @@ pub loop-node-preserved-then-lets_through : goal.loop-node-preserved-then-lets_t
 loop-node-preserved-then-lets_through c =
     let column = c.args.self.now in
     let r = column.rack.now in
-    let v = column.host.0 in
+    let v = column.target.0 in
     let d = c.args.distance in
     let x = c.in-Some.node.0 in
     let t = c.loop-node.distances in
@@ -35,7 +35,7 @@ pub loop-node-preserved : goal.loop-node-preserved
 loop-node-preserved c =
     let column = c.args.self.now in
     let r = column.rack.now in
-    let v = column.host.0 in
+    let v = column.target.0 in
     let d = c.args.distance in
     let x = c.in-Some.node.0 in
     let t = c.loop-node.distances in

@@ -10,4 +10,4 @@ invariant-loop-node l =
     (goal.iterator-loop-node).can_next l.node-iterator
     × (goal.iterator-loop-node).is_finite l.node-iterator
     × (nodes.end ≡ node_count l.self.rack.now)
-    × Spread l.self.rack.now l.self.host.0 l.distance nodes.start l.initial.distances l.distances l.found
+    × Spread l.self.rack.now l.self.target.0 l.distance nodes.start l.initial.distances l.distances l.found
