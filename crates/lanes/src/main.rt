@@ -16,7 +16,8 @@ fn read_most<R: Read + Drop>(heap: Global, input: R) -> io::Result<Vec<u8>>
     ensures bytes { IfOk result (λ file. IfSome (R.remaining input) (λ bytes. file.items ≡ take MOST bytes)) }
     ensures few { IfOk result (λ file. length file.items ≤ MOST) }
 {
-    let mut file = Vec::new(heap);
+    // with room for them all, since a read of less would cut a longer message off
+    let mut file = Vec::with_capacity(heap, MOST as usize)?;
     input.take(MOST).read_to_end(&mut file)?;
     // no more than this is read; of a reader that is not known, only this line says so
     file.truncate(MOST as usize);

@@ -42,14 +42,14 @@ pub none_leaves : (cs : List Cable) (e : End) → FreeEnd cs e → (c : ℕ) →
 none_leaves cs e free c h = free (c / 2) (omega (arith, h.0)) (subst (EndsAt (get_or cs (c / 2) none)) h.1 (tail_ends cs c))
 
 -- the first k cables end at ports of their own
-abbrev ApartBelow : List Cable → ℕ → Type 0
+abbrev pub ApartBelow : List Cable → ℕ → Type 0
 ApartBelow cs k = (b c : ℕ) → (b < 2 * k) × (c < 2 * k) × (tail_end cs b ≡ tail_end cs c) → b ≡ c
 
 -- none of the first k cables ends there
-abbrev FreeBelow : List Cable → ℕ → End → Type 0
+abbrev pub FreeBelow : List Cable → ℕ → End → Type 0
 FreeBelow cs k e = (j : ℕ) → j < k → EndsAt (get_or cs j none) e → ⊥
 
-free_front : (cs : List Cable) (k : ℕ) (e : End) → k ≤ length cs → FreeEnd (take k cs) e → FreeBelow cs k e
+pub free_front : (cs : List Cable) (k : ℕ) (e : End) → k ≤ length cs → FreeEnd (take k cs) e → FreeBelow cs k e
 free_front cs k e within free j h at =
     let long = length-take-le k cs within in
     free j (omega arith) (subst (λ d. EndsAt d e) (sym (get_or-take k cs j none h)) at)
@@ -82,7 +82,7 @@ apart_new cs k b c differ at at' same =
     (cases_eq (c % 2) 0))
     (cases_eq (b % 2) 0)
 
-apart_more :
+pub apart_more :
     (cs : List Cable) (k : ℕ) → ((get_or cs k none).first.node.0 ≡ (get_or cs k none).second.node.0 → ⊥) →
     FreeBelow cs k (get_or cs k none).first → FreeBelow cs k (get_or cs k none).second → ApartBelow cs k → ApartBelow cs (suc k)
 apart_more cs k differ free free' old b c h =
@@ -100,7 +100,7 @@ apart_more cs k differ free free' old b c h =
     (cases_lt b (2 * k))
 
 -- no cable before cable k ends where it does
-apart_free : (cs : List Cable) (k : ℕ) (e : End) → k < length cs → EndsAt (get_or cs k none) e → Apart cs → FreeEnd (take k cs) e
+pub apart_free : (cs : List Cable) (k : ℕ) (e : End) → k < length cs → EndsAt (get_or cs k none) e → Apart cs → FreeEnd (take k cs) e
 apart_free cs k e h at apart j l at' =
     let long = length-take-le k cs (omega arith) in
     let b = ends_tail cs j e (subst (λ d. EndsAt d e) (get_or-take k cs j none (omega arith)) at') in

@@ -4,4 +4,5 @@ pub mod Facts
 pub mod Same
 pub mod Lists
 pub mod Searches
+pub mod Ports
 mod Chains

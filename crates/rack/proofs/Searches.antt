@@ -5,10 +5,8 @@ use Rattle.std.proofs.lemmas.List.{length-map, get_or-map}
 use Rattle.std.proofs.lemmas.List.Elements.{All-map}
 use Rattle.std.proofs.lemmas.Bool.{cases_lt, cases_eq}
 use Rattle.rack.specs.declared.numbers.Channel.{Channel}
-use Rattle.rack.specs.declared.cable.End.{End}
 use Rattle.rack.specs.declared.rack.Rack.{Rack}
-use Rattle.rack.specs.Network.{Leaves}
-use Rattle.rack.specs.Racks.{cables_of, tail, head, Host, Leaving, Entering, EntersSwitch, back}
+use Rattle.rack.specs.Racks.{tail, head, Host, Leaving, Entering, EntersSwitch, back}
 use Rattle.rack.proofs.Facts as facts
 use Rattle.rack.specs.Index.{Lists}
 
@@ -75,16 +73,6 @@ entering r v list all = record {
       let order = leaving_order r v _ _ (all.each i d low') (all.each j d high') (all.ascending i j d low high') in
       rw (first, second) order;
 }
-
--- a search by port
-pub at_port :
-    (r : Rack) (e : End) (list : List Channel) → Lists (Leaving r e.node.0) list → (o : Option Channel) →
-    MatchOption o (AllWithin (λ c. Leaves (cables_of r) e c.0 → ⊥) list 0 (length list)) (λ c. Leaves (cables_of r) e c.0 × (i : ℕ) × (i < length list) × HoldsAt (λ d. d ≡ c) list i × AllWithin (λ d. Leaves (cables_of r) e d.0 → ⊥) list 0 i) →
-    MatchOption o ((c : ℕ) → Leaves (cables_of r) e c → ⊥) (λ c. Leaves (cables_of r) e c.0)
-at_port r e list all None others = λ c leaves.
-    let at = all.every (record { 0 = c }) (leaves.0, ap (λ (x : End). x.node.0) leaves.1) in
-    others at.0 (record { 0 = c }) (omega arith) at.1 (subst (λ (d : Channel). Leaves (cables_of r) e d.0) (sym at.2) leaves)
-at_port r e list all (Some c) found = found.0
 
 -- the first channel that leaves a host is the one that does, and enters a switch
 pub out_of_host :

@@ -1,6 +1,8 @@
 // Numbers with types of their own, so that none stands in another's place.
 ghost use Rattle.std.specs.Prelude.{◌≡◌, ◌<◌, ◌≤◌, min, MatchOption};
 
+use std::fmt;
+
 // A node, by its number in the file.
 #[derive(Clone, Copy, PartialEq, Eq, PartialOrd, Ord, Debug)]
 pub struct Node(pub u16);
@@ -15,7 +17,7 @@ pub struct Channel(pub u16);
 
 // A number from 0 to `LAST`.
 // No `Model`: clauses name its one field, as they name that of a `Node` or a `Channel`, and its bound is a ghost field.
-#[derive(Clone, Copy, PartialEq, Eq, Debug)]
+#[derive(Clone, Copy, PartialEq, Eq)]
 pub struct UpTo<const LAST: u8> {
     number: u8,
     ghost within: { number ≤ LAST },
@@ -54,6 +56,18 @@ impl<const LAST: u8> UpTo<LAST> {
         ensures within { result ≤ LAST }
     {
         self.number
+    }
+}
+
+// A lane and a level each under its own name.
+impl<const LAST: u8> fmt::Debug for UpTo<LAST> {
+    fn fmt<W: fmt::Write>(&self, f: &mut fmt::Formatter<W>) -> fmt::Result {
+        let name = match LAST {
+            7 => "Lane",
+            15 => "Level",
+            _ => "UpTo",
+        };
+        f.debug_struct(name).field("number", &self.number).finish()
     }
 }
 

@@ -1,8 +1,9 @@
--- A relation within n that has no ring has no long chain.
+-- What a relation within n has if it has no ring: no long chain, an induction along its steps, and, where it can be decided, ranks.
 use Rattle.std.proofs.Common.{◌≡◌, ℕ, zero, suc, ◌+◌, ◌-◌, ◌<◌, ◌⊎◌, sym, refl, ap, ◌∙◌, subst, inl, inr, arith}
 use native.Mathlib.Decide.{ℕ_discrete, dec_lt}
-use Rattle.ranking.specs.Graphs.{Within, ChainTo, IsRing, NoRing}
+use Rattle.ranking.specs.Graphs.{Within, ChainTo, IsRank, IsRing, NoRing, HaveRanks}
 use Rattle.ranking.proofs.Pigeons.{pigeonhole}
+use Rattle.ranking.proofs.Chains.{chain_most, ranks_rise}
 
 -- some number below m has P
 abbrev SomeBelow : (ℕ → Type 0) → ℕ → Type 0
@@ -132,3 +133,51 @@ module _ (f : ℕ → ℕ → Type 0) (n : ℕ) (within : Within f n) where
   module _ (free : NoRing f) where
     pub no_long_chain : (y : ℕ) → y < n → ChainTo f n y → ⊥
     no_long_chain y l c = let q = ring_from_long_chain y l c in free q.0 q.1 q.2
+
+    -- what holds of a point if it holds of its forerunners holds of every point below n
+    pub induct_along : (P : ℕ → Type 0) → ((y : ℕ) → y < n → ((x : ℕ) → f x y → P x) → P y) → (y : ℕ) → y < n → P y
+    induct_along P step y l = go n y l (no_long_chain y l)
+      where
+        go : (k y : ℕ) → y < n → (ChainTo f k y → ⊥) → P y
+        go zero y l none = absurd (none tt)
+        go (suc k) y l none = step y l (λ x h. go k x (within x y h).0 (λ c. none (x, c, h)))
+
+    module _ (decide : (x y : ℕ) → Dec (f x y)) where
+      decide_chain : (k y : ℕ) → Dec (ChainTo f k y)
+      decide_chain zero y = yes tt
+      decide_chain (suc k) y = go (decide_below (λ x. ChainTo f k x × f x y) (λ x. both (decide_chain k x) (decide x y)) n)
+        where
+          both : {x : ℕ} → Dec (ChainTo f k x) → Dec (f x y) → Dec (ChainTo f k x × f x y)
+          both (yes a) (yes b) = yes (a, b)
+          both (yes a) (no b) = no (λ h. b h.1)
+          both (no a) b = no (λ h. a h.0)
+
+          go : SomeBelow (λ x. ChainTo f k x × f x y) n ⊎ ((x : ℕ) → x < n → ChainTo f k x × f x y → ⊥) → Dec (ChainTo f (suc k) y)
+          go (inl q) = yes (q.0, q.2.0, q.2.1)
+          go (inr none) = no (λ c. none c.0 (within c.0 y c.2).0 (c.1, c.2))
+
+      -- a relation within n that can be decided and has no ring has ranks
+      pub ranks_from_no_ring : HaveRanks f n
+      ranks_from_no_ring y l = go n (λ c. no_long_chain y l c)
+        where
+          go : (k : ℕ) → (ChainTo f k y → ⊥) → (r : ℕ) × IsRank f y r
+          go zero none = absurd (none tt)
+          go (suc k) none = at_k (go k) (decide_chain k y)
+            where
+              at_k : ((ChainTo f k y → ⊥) → (r : ℕ) × IsRank f y r) → Dec (ChainTo f k y) → (r : ℕ) × IsRank f y r
+              at_k below (yes c) = (k, record { reached = c; longest = chain_most f k y none })
+              at_k below (no c) = below c
+
+      rank_of : (y : ℕ) → Dec (y < n) → ℕ
+      rank_of y (yes l) = (ranks_from_no_ring y l).0
+      rank_of y (no l) = 0
+
+      -- it also has a number for each point that rises along every step
+      pub rise_from_no_ring : (rank : ℕ → ℕ) × ((x y : ℕ) → f x y → rank x < rank y)
+      unfolding rank_of
+      rise_from_no_ring = (λ y. rank_of y (dec_lt y n), λ x y h. go x y h (dec_lt x n) (dec_lt y n))
+        where
+          go : (x y : ℕ) → f x y → (d : Dec (x < n)) (e : Dec (y < n)) → rank_of x d < rank_of y e
+          go x y h (yes a) (yes b) = let p = ranks_from_no_ring x a in let q = ranks_from_no_ring y b in ranks_rise f x y p.0 q.0 p.1 q.1 h
+          go x y h (yes a) (no b) = absurd (b (within x y h).1)
+          go x y h (no a) e = absurd (a (within x y h).0)

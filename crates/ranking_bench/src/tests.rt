@@ -56,7 +56,7 @@ fn free_of_rings(rt: HostRuntime) -> Result<(), Fail> {
 fn with_a_ring(rt: HostRuntime) -> Result<(), Fail> {
     gives(
         &rt,
-        "a point that followed_by itself",
+        "a point that follows itself",
         1,
         &[(0, 0)],
         Err(RankFault::Ring { length: 1 }),

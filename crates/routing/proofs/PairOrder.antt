@@ -1,14 +1,14 @@
 -- The pairs of different hosts in their order, one more at a time. Assumes nothing.
-use Rattle.std.proofs.Common.{◌≡◌, ℕ, zero, suc, ◌+◌, ◌-◌, ◌*◌, ◌<◌, ◌≤◌, ◌⊎◌, None, Some, refl, sym, ap, ◌∙◌, subst, ⊎_elim, mul_comm, arith}
+use Rattle.std.proofs.Common.{◌≡◌, ℕ, zero, suc, ◌+◌, ◌-◌, ◌*◌, ◌/◌, ◌<◌, ◌≤◌, ◌⊎◌, None, Some, refl, sym, ap, ◌∙◌, subst, inl, ⊎_elim, mul_comm, arith}
 use Rattle.std.proofs.Math.Nat.{mul-suc}
 use Rattle.std.proofs.lemmas.Nat.{mul-add-lt}
-use Rattle.std.proofs.lemmas.Bool.{cases_lt}
+use Rattle.std.proofs.lemmas.Bool.{cases_lt, cases_eq}
 use Rattle.rack.specs.declared.rack.Rack.{Rack}
 use Rattle.rack.specs.Racks.{node_count}
 use Rattle.rack.proofs.Facts.{host_below}
 use Rattle.routing.specs.declared.pair.Pair.{Pair}
 use Rattle.routing.specs.Paths.{PairOf}
-use Rattle.routing.specs.Pairs.{pair_place, HasPair, NextPair}
+use Rattle.routing.specs.Pairs.{pair_place, NextOf, NextPair}
 use Rattle.routing.proofs.Columns.{pair_below, same_pair}
 
 module _ (r : Rack) where
@@ -31,33 +31,53 @@ module _ (r : Rack) where
       (λ (e : (a ≡ u) × (b < v)). let same = ap (λ x. n * x) e.0 in omega (arith, e.1))
       h
 
-  -- the pair at the place, and no other, is of different hosts
-  pub at_place : (k : ℕ) (p : Pair) → p.receiver.0 < n → pair_place r p.sender.0 p.receiver.0 ≡ k → HasPair r k → PairOf r p.sender.0 p.receiver.0
-  at_place k p low is h =
-      let same = same_pair n h.0 h.1 p.sender.0 p.receiver.0 (host_below r h.1 h.2.1) low (h.3 ∙ sym is) in
-      subst (λ x. PairOf r x p.receiver.0) same.0 (subst (PairOf r h.0) same.1 h.2)
+  -- in the row of sender u, the places before k are those of the receivers below k - n u
+  pub row_before : (k u v m s first : ℕ) → m ≡ n → s ≡ u → first ≡ k - m * s → v < first → pair_place r u v < k
+  row_before k u v m s first em es ef l = let row : m * s ≡ n * u = rw (em, es) refl in omega (arith, row)
 
-  pub within_table : (k : ℕ) → HasPair r k → k < n * n
-  within_table k h = omega (arith, place_below h.0 h.1 h.2, h.3)
+  pub row_behind : (k u v m s first : ℕ) → m ≡ n → s ≡ u → first ≡ k - m * s → first ≤ v → k ≤ pair_place r u v
+  row_behind k u v m s first em es ef l = let row : m * s ≡ n * u = rw (em, es) refl in omega (arith, row)
 
-  -- of the places from k on the search found none of a pair, or the first
-  pub next_none : (k : ℕ) → ((x : ℕ) → k ≤ x → HasPair r x → ⊥) → NextPair r k None
-  next_none k none u v p =
+  -- the pairs of the senders below u are before place k
+  abbrev pub AllBefore : ℕ → ℕ → Type 0
+  AllBefore k u = (x v : ℕ) → x < u → PairOf r x v → pair_place r x v < k
+
+  -- of the senders below the one in whose row place k is; of one more, of which none is left; of all
+  pub before_row : (k m u : ℕ) → m ≡ n → u ≡ k / m → AllBefore k u
+  before_row k m u em eu x v l p =
+      let same : k / m ≡ k / n = ap (λ d. k / d) em in
+      let low = mul-add-lt x n v (k / n) (omega arith) (host_below r v p.1) in
+      omega (arith, mul_comm x n, mul_comm (k / n) n)
+
+  pub before_more : (k u : ℕ) → AllBefore k u → NextOf r u k None → AllBefore k (u + 1)
+  before_more k u before none x v l p =
       ⊎_elim
-      (λ (l : pair_place r u v < k). l)
-      (λ (l : k ≤ pair_place r u v). absurd (none (pair_place r u v) l (u, v, p, refl)))
-      (cases_lt (pair_place r u v) k)
+      (λ (e : x ≡ u). subst (λ y. pair_place r y v < k) (sym e) (none v (subst (λ y. PairOf r y v) e p)))
+      (λ (other : x ≡ u → ⊥). before x v (omega arith) p)
+      (cases_eq x u)
 
-  pub next_found : (k x : ℕ) (p : Pair) → k ≤ x → HasPair r x → ((y : ℕ) → k ≤ y → y < x → HasPair r y → ⊥) → p.receiver.0 < n → pair_place r p.sender.0 p.receiver.0 ≡ x → NextPair r k (Some p)
-  next_found k x p low has none at is = (
-    at_place x p at is has,
-    omega (arith, is),
-    λ u v q l.
-        ⊎_elim
-        (λ (less : pair_place r u v < x). absurd (none (pair_place r u v) l less (u, v, q, refl)))
-        (λ (more : x ≤ pair_place r u v). omega (arith, is))
-        (cases_lt (pair_place r u v) x),
-  )
+  pub before_all : (k u : ℕ) → n ≤ u → AllBefore k u → NextPair r k None
+  before_all k u all before x v p = let low = host_below r x p.0 in before x v (omega arith) p
+
+  -- the first pair of the first sender that has one left is the first
+  pub first_left : (k u : ℕ) (p : Pair) → AllBefore k u → NextOf r u k (Some p) → NextPair r k (Some p)
+  first_left k u p before found =
+      let is = found.0 in (
+        subst (λ x. PairOf r x p.receiver.0) (sym is) found.1,
+        subst (λ x. k ≤ pair_place r x p.receiver.0) (sym is) found.2,
+        λ x v q l.
+            subst (λ y. pair_place r y p.receiver.0 ≤ pair_place r x v) (sym is)
+            (⊎_elim
+            (λ (less : x < u). let low = before x v less q in absurd (omega arith))
+            (λ (h : u ≤ x).
+            ⊎_elim
+            (λ (e : x ≡ u).
+            let w = found.3 v (subst (λ y. PairOf r y v) e q) (subst (λ y. k ≤ pair_place r y v) e l) in
+            subst (λ y. pair_place r u p.receiver.0 ≤ pair_place r y v) (sym e) (omega arith))
+            (λ (more : x ≡ u → ⊥). let low = place_earlier u p.receiver.0 x v found.1 (inl (omega arith)) in omega arith)
+            (cases_eq x u))
+            (cases_lt x u)),
+      )
 
   -- what holds when the senders below u were taken, and of u the receivers below v: after a whole row begins the next, and what is no pair can be passed
   module _ (P : ℕ → ℕ → Type 0) (row : (u : ℕ) → P u n → P (suc u) 0) (skip : (u v : ℕ) → (PairOf r u v → ⊥) → P u v → P u (suc v)) where

@@ -9,9 +9,12 @@ use Rattle.routing.specs.Paths.{PairOf}
 abbrev pub pair_place : Rack → ℕ → ℕ → ℕ
 pair_place r u v = node_count r * u + v
 
--- the place is that of a pair of different hosts
-abbrev pub HasPair : Rack → ℕ → Type 0
-HasPair r k = (u : ℕ) × (v : ℕ) × PairOf r u v × (pair_place r u v ≡ k)
+-- of the pairs of sender u whose place is k or more, the first; none if there is none
+abbrev pub NextOf : Rack → ℕ → ℕ → Option Pair → Type 0
+NextOf r u k found =
+    MatchOption found
+    ((v : ℕ) → PairOf r u v → pair_place r u v < k)
+    (λ p. (p.sender.0 ≡ u) × PairOf r u p.receiver.0 × (k ≤ pair_place r u p.receiver.0) × ((v : ℕ) → PairOf r u v → k ≤ pair_place r u v → p.receiver.0 ≤ v))
 
 -- of the pairs of different hosts whose place is k or more, the first; none if there is none
 abbrev pub NextPair : Rack → ℕ → Option Pair → Type 0

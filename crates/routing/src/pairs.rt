@@ -1,34 +1,12 @@
 // The pairs of different hosts of a rack, one after the other.
-ghost use Rattle.std.specs.Prelude.{◌≡◌, ℕ, ◌+◌, ◌-◌, ◌*◌, ◌<◌, ◌≤◌, Decides, MatchOption};
+ghost use Rattle.std.specs.Prelude.{◌≡◌, ◌+◌, ◌-◌, ◌*◌, ◌<◌, MatchOption};
 ghost use Rattle.std.specs.Iterator.{at_most};
 ghost use Rattle.rack.specs.Racks.{node_count};
-ghost use Rattle.routing.specs.Pairs.{pair_place, HasPair, NextPair};
+ghost use Rattle.routing.specs.Pairs.{pair_place, NextOf, NextPair};
 
 use crate::pair::Pair;
-use crate::sizes::node_pairs;
+use rack::numbers::Node;
 use rack::rack::Rack;
-
-// The pair of nodes at a place of a table with a place for every such pair; none if there is no such place.
-fn pair_at(rack: &Rack, place: usize) -> Option<Pair>
-    ensures { MatchOption result (node_count rack.now * node_count rack.now ≤ place) (λ p. (p.receiver.0 < node_count rack.now) × (pair_place rack.now p.sender.0 p.receiver.0 ≡ place)) }
-{
-    if place >= node_pairs(rack) {
-        return None;
-    }
-    let nodes = rack.node_count();
-    Some(Pair::of((place / nodes) as u16, (place % nodes) as u16))
-}
-
-// Whether the pair at the place is of two different hosts.
-fn has_hosts(rack: &Rack, place: usize) -> bool
-    ensures { Decides result (HasPair rack.now place) }
-{
-    // a match: with `is_some_and` its goal stayed open
-    match pair_at(rack, place) {
-        Some(pair) => pair.joins_hosts(rack),
-        None => false,
-    }
-}
 
 // The pairs of different hosts from a place on, by ascending sender and then receiver.
 #[derive(Drop)]
@@ -46,11 +24,37 @@ impl<'a> Pairs<'a> {
         Pairs { rack, from: 0 }
     }
 
-    // The first place from there on that is of a pair.
-    fn next_place(&self) -> Option<usize>
-        ensures { MatchOption result ((k : ℕ) → self.now.from ≤ k → HasPair self.now.rack.now k → ⊥) (λ i. (self.now.from ≤ i) × HasPair self.now.rack.now i × ((k : ℕ) → self.now.from ≤ k → k < i → HasPair self.now.rack.now k → ⊥)) }
+    // The first pair of a sender that is at `from` or behind it. Of what is no host no receiver is looked at.
+    fn next_of(&self, sender: Node) -> Option<Pair>
+        requires { sender.0 < node_count self.now.rack.now }
+        ensures { NextOf self.now.rack.now sender.0 self.now.from result }
     {
-        (self.from..node_pairs(self.rack)).find(|place| has_hosts(self.rack, *place))
+        if !self.rack.is_host(sender) {
+            return None;
+        }
+        let nodes = self.rack.node_count();
+        let row = nodes * usize::from(sender.0);
+        for v in self.from.saturating_sub(row)..nodes {
+            let receiver = Node(v as u16);
+            let pair = Pair { sender, receiver };
+            if pair.joins_hosts(self.rack) {
+                return Some(pair);
+            }
+        }
+        None
+    }
+
+    // The first pair that is at `from` or behind it: of the sender in whose row that is, or of one after it.
+    fn next_pair(&self) -> Option<Pair>
+        ensures { NextPair self.now.rack.now self.now.from result }
+    {
+        let nodes = self.rack.node_count();
+        for u in self.from.checked_div(nodes)?..nodes {
+            if let Some(pair) = self.next_of(Node(u as u16)) {
+                return Some(pair);
+            }
+        }
+        None
     }
 }
 
@@ -62,8 +66,8 @@ impl Iterator for Pairs<'_> {
     ghost remaining = { λ s. at_most (node_count s.rack.now * node_count s.rack.now - s.from) };
 
     fn next(&mut self) -> Option<Pair> {
-        let place = self.next_place()?;
-        let pair = pair_at(self.rack, place)?;
+        let pair = self.next_pair()?;
+        let place = pair.place(self.rack);
         self.from = place + 1;
         Some(pair)
     }

@@ -12,4 +12,4 @@ returns-clause-bytes g c =
     let limit = c.take.ensures.limit in
     let inner = c.take.ensures.inner in
     let remaining = g.R.Read.remaining in
-    first_of_input (remaining c.args.input) _ 4096 c.new-file.result.items c.read_to_end.new.buf.items c.truncate.new.self.items (λ i. option_map (take (limit i)) (remaining (inner i))) c.new-file.ensures.items c.in_ok-read_to_end.ensures.bytes c.truncate.ensures.items
+    first_of_input (remaining c.args.input) _ 4096 c.in_ok-file.file.items c.read_to_end.new.buf.items c.truncate.new.self.items (λ i. option_map (take (limit i)) (remaining (inner i))) c.in_ok-file.ensures.items c.in_ok-read_to_end.ensures.bytes c.truncate.ensures.items

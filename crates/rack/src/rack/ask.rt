@@ -9,6 +9,7 @@ pub use crate::cable::Ends;
 use crate::ends::{is_host_at, is_switch_at};
 use crate::numbers::{Channel, Node};
 use crate::rack::Rack;
+use crate::rack::make::port_place;
 
 // The other channel of the channel's cable.
 pub fn way_back(channel: Channel) -> Channel
@@ -72,21 +73,15 @@ impl Rack {
         }
     }
 
-    // Whether the channel leaves by the port.
-    fn leaves_by(&self, channel: Channel, end: End) -> bool
-        ensures { Decides result (Leaves (cables_of self.now) end channel.0) }
-    {
-        self.ends(channel).is_some_and(|ends| ends.tail == end)
-    }
-
     // The channel that leaves by the port; none if none does.
     pub fn channel_at(&self, end: End) -> Option<Channel>
         ensures { MatchOption result ((c : ℕ) → Leaves (cables_of self.now) end c → ⊥) (λ c. Leaves (cables_of self.now) end c.0) }
     {
-        self.leaving(end.node)
-            .iter()
-            .copied()
-            .find(|channel| self.leaves_by(*channel, end))
+        // behind the places of a node's ports are those of the next node's
+        if end.port.0 > 36 {
+            return None;
+        }
+        *self.ports.get(port_place(end))?
     }
 
     // The lowest-numbered channel from `from` on that leaves the node; none if none does.

@@ -1,10 +1,10 @@
 // Makes a rack from tables that keep the rules.
 ghost use Rattle.std.specs.Prelude.{◌≡◌, ℕ, ◌<◌, [], length, IfOk, Decides, MatchResult, ◌≢◌, slice_index_or};
 ghost use Rattle.rack.specs.Network.{none, KeepsRules, KnownKinds, AllJoin, Apart};
-ghost use Rattle.rack.specs.Index.{list_of, Listed};
+ghost use Rattle.rack.specs.Index.{list_of, Listed, port_place, Ported};
 ghost use Rattle.rack.specs.Racks.{nodes_of, cables_of, Refuses};
 
-use crate::cable::Cable;
+use crate::cable::{Cable, End};
 use crate::ends::{is_free, joins_ports, lonely_host};
 use crate::fault::RackFault;
 use crate::kind::Kind;
@@ -78,6 +78,31 @@ fn list_channels(
     Ok(lists)
 }
 
+// The place of a port in the table of the ports of all nodes: of each node the places of ports 0 to 36.
+pub(crate) fn port_place(end: End) -> usize
+    ensures { result ≡ port_place end }
+{
+    37 * usize::from(end.node.0) + usize::from(end.port.0)
+}
+
+// For each port of each node the channel that leaves there.
+fn port_channels(
+    heap: Global,
+    nodes: &[u8],
+    cables: &[Cable],
+) -> Result<Vec<Option<Channel>>, AllocError>
+    requires { KeepsRules nodes.now cables.now }
+    ensures { IfOk result (λ ports. Ported nodes.now cables.now ports.items) }
+{
+    let mut ports = vec![in heap; None; 37 * nodes.len()]?;
+    for number in 0..2 * cables.len() {
+        let channel = Channel(number as u16);
+        let tail = cables[number / 2].ends(channel).tail;
+        ports[port_place(tail)] = Some(channel);
+    }
+    Ok(ports)
+}
+
 impl Rack {
     // The rack that the tables describe, if they keep the rules of a rack.
     pub fn from_tables(heap: Global, nodes: &[u8], cables: &[Cable]) -> Result<Rack, RackFault>
@@ -90,6 +115,7 @@ impl Rack {
             nodes: Vec::from_slice(heap, nodes)?,
             cables: Vec::from_slice(heap, cables)?,
             leaving: list_channels(heap, nodes, cables)?,
+            ports: port_channels(heap, nodes, cables)?,
         })
     }
 }
